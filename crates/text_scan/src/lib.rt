@@ -3,10 +3,12 @@
 
 mod items;
 mod memory;
+mod pins;
 mod text;
 
 pub use items::Items;
 pub use memory::NoMemory;
+pub use pins::{Direction, PinKind};
 pub use text::Text;
 
 #[cfg(test)]
