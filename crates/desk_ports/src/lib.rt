@@ -1,0 +1,26 @@
+//! The outside of the program: a shelf of files that are read by name, and a sink for what is
+//! written. Each device counts its faults, and the memory forms tell what they hold.
+#![tactic(auto)]
+
+mod asked;
+mod faults;
+mod file_shelf;
+mod memory_shelf;
+mod memory_sink;
+mod out_sink;
+mod reading;
+mod shelf;
+mod sink;
+
+pub use asked::Asked;
+pub use faults::NoMemory;
+pub use file_shelf::FileShelf;
+pub use memory_shelf::MemShelf;
+pub use memory_sink::MemSink;
+pub use out_sink::OutSink;
+pub use reading::{ReadRefusal, read_file};
+pub use shelf::{Shelf, ShelfFailed};
+pub use sink::{Sink, SinkFailed};
+
+
+
