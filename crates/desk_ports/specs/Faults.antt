@@ -1,4 +1,5 @@
-use Rattle.std.specs.Prelude.{◌≡◌, ◌≤◌, ◌+◌, ◌-◌, ◌^◌, ℕ, Bool, false, Result, OnOk, OnErr, min}
+use Rattle.std.specs.Prelude.{◌≡◌, ◌≤◌, ◌+◌, ◌-◌, ◌^◌, ◌==◌, ℕ, Bool, false, List, Result, OnOk, OnErr, min}
+use Rattle.std.specs.List.{list_any}
 
 -- one more, up to the last value of a count
 abbrev pub one_more : ℕ → ℕ
@@ -13,6 +14,10 @@ pub record HasCause {T E : Type 0} (before now : ℕ) (result : Result T E) : Ty
   pub later : before ≤ now
   pub failed : OnErr result (Rose before now)
   pub kept : OnOk result (now ≡ before)
+
+-- whether a call is among those that are told to fail, by their numbers
+abbrev pub is_among : List ℕ → ℕ → Bool
+is_among calls call = list_any (λ told. told == call) calls
 
 -- no call is told to fail
 abbrev pub NoneFails : (ℕ → Bool) → Type 0

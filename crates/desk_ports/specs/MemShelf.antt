@@ -1,4 +1,4 @@
-use Rattle.std.specs.Prelude.{ℕ, Bool, true, List, [], ◌==◌, bytes_eq, Option, Some, None, is_some, unwrap_or}
+use Rattle.std.specs.Prelude.{ℕ, Bool, true, List, [], bytes_eq, Option, Some, None, is_some, unwrap_or}
 use Rattle.std.specs.List.{list_any}
 use Rattle.desk_ports.specs.declared.asked.Asked.{Asked}
 use Rattle.desk_ports.specs.Asked.{nothing_asked}
@@ -26,10 +26,6 @@ new_shelf files fails = record {
   asked = nothing_asked;
   faults = 0;
 }
-
--- whether a call is among those that are told to fail
-abbrev pub is_among : List ℕ → ℕ → Bool
-is_among calls call = list_any (λ told. told == call) calls
 
 -- whether a name is expected
 abbrev pub is_expected : Option (List (List ℕ)) → List ℕ → Bool

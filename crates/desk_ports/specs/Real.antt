@@ -1,10 +1,10 @@
-use Rattle.std.specs.Prelude.{ℕ, Bool, false}
+use Rattle.std.specs.Prelude.{ℕ, Bool}
 
 -- what contracts see of a shelf of real files
 pub record RealShelf : Type 0 where
   pub is_started : Bool
   pub faults : ℕ
 
--- a new one
-abbrev pub new_real_shelf : RealShelf
-new_real_shelf = record { is_started = false; faults = 0 }
+-- what contracts see of a real sink
+pub record RealSink : Type 0 where
+  pub faults : ℕ

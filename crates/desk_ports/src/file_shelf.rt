@@ -1,7 +1,6 @@
 // The files of the system, of whose content nothing is told.
 ghost use Rattle.std.specs.Prelude.{◌≡◌, [], None, false, true};
 ghost use Rattle.desk_ports.specs.Asked.{nothing_asked};
-ghost use Rattle.desk_ports.specs.Real.{new_real_shelf};
 
 use crate::faults::raised;
 use crate::{Shelf, ShelfFailed};
@@ -29,7 +28,8 @@ impl<'a, R: Files> Model for FileShelf<'a, R> {
 
 impl<'a, R: Files> FileShelf<'a, R> {
     pub fn new(rt: &'a R) -> FileShelf<'a, R>
-        ensures { result ≡ new_real_shelf }
+        ensures started { result.is_started ≡ false }
+        ensures faults { result.faults ≡ 0 }
     {
         FileShelf {
             rt,

@@ -1,8 +1,8 @@
 // A shelf over memory, which tells all and fails at the calls that it is told.
 ghost use Rattle.std.specs.Prelude.{◌≡◌, ◌≤◌, ◌<◌, [], List, ℕ, true, Some, None, is_some, unwrap_or, length, drop, map, string_bytes, IfSome, IfNone, option_copied};
-ghost use Rattle.desk_ports.specs.Faults.{NoneFails};
+ghost use Rattle.desk_ports.specs.Faults.{one_more, is_among, NoneFails};
 ghost use Rattle.desk_ports.specs.Files.{file_in, files_of, bytes_at};
-ghost use Rattle.desk_ports.specs.MemShelf.{new_shelf, is_among, is_expected};
+ghost use Rattle.desk_ports.specs.MemShelf.{new_shelf, is_expected};
 ghost use Rattle.desk_ports.specs.Shelf.{Takes};
 
 use crate::faults::raised;
@@ -50,7 +50,8 @@ impl Model for MemShelf {
 impl MemShelf {
     /// The calls with these numbers, counted from 0, fail, and so does a start of a missing file.
     pub fn new(files: Vec<(String, Vec<u8>)>, fails: Vec<u64>) -> MemShelf
-        ensures { result ≡ new_shelf (files_of files.items) fails.items }
+        ensures made { result ≡ new_shelf (files_of files.items) fails.items }
+        ensures never { fails.items ≡ [] → NoneFails (⟦<MemShelf as Shelf>⟧.fails result) }
     {
         MemShelf {
             files,
@@ -82,6 +83,15 @@ impl MemShelf {
             asked,
             faults,
         }
+    }
+
+    // Counts a failure.
+    fn failed(&mut self) -> ShelfFailed
+        ensures raised { self.new ≡ record self.old { faults = one_more self.old.faults } }
+        ensures later { self.old.faults ≤ self.new.faults }
+    {
+        self.faults = raised(self.faults);
+        ShelfFailed
     }
 
     /// What was asked so far.
@@ -177,8 +187,7 @@ impl Shelf for MemShelf {
             }
             _ => {
                 self.reading = None;
-                self.faults = raised(self.faults);
-                Err(ShelfFailed)
+                Err(self.failed())
             }
         }
     }
@@ -194,8 +203,7 @@ impl Shelf for MemShelf {
             }
             _ => {
                 self.asked = self.asked.and_call();
-                self.faults = raised(self.faults);
-                Err(ShelfFailed)
+                Err(self.failed())
             }
         }
     }

@@ -1,6 +1,6 @@
 // A sink over memory, which tells all and fails at the calls that it is told.
-ghost use Rattle.std.specs.Prelude.{◌≡◌, ◌≤◌, true, IfOk, length};
-ghost use Rattle.desk_ports.specs.MemShelf.{is_among};
+ghost use Rattle.std.specs.Prelude.{◌≡◌, ◌≤◌, [], true, IfOk, length};
+ghost use Rattle.desk_ports.specs.Faults.{is_among, NoneFails};
 ghost use Rattle.desk_ports.specs.MemSink.{new_sink};
 
 use crate::faults::raised;
@@ -39,7 +39,8 @@ impl MemSink {
     /// The calls with these numbers, counted from 0, fail, and so does a piece that doesn't fit, of
     /// which the bytes that fit are written.
     pub fn new(alloc: Global, room: usize, fails: Vec<u64>) -> Result<MemSink, NoMemory>
-        ensures { IfOk result (λ sink. sink ≡ new_sink room fails.items) }
+        ensures made { IfOk result (λ sink. sink ≡ new_sink room fails.items) }
+        ensures never { fails.items ≡ [] → IfOk result (λ sink. NoneFails (⟦<MemSink as Sink>⟧.fails sink)) }
     {
         Ok(MemSink {
             bytes: Vec::with_capacity(alloc, room)?,

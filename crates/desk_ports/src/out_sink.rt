@@ -15,16 +15,16 @@ pub struct OutSink<'a, R: Print> {
 }
 
 impl<'a, R: Print> Model for OutSink<'a, R> {
-    ghost use Rattle.std.specs.Prelude.{ℕ};
+    ghost use Rattle.desk_ports.specs.Real.{RealSink};
 
-    ghost Value = { ℕ };
+    ghost Value = { RealSink };
 
-    ghost view = { λ s. s.faults };
+    ghost view = { λ s. record { faults = s.faults } };
 }
 
 impl<'a, R: Print> OutSink<'a, R> {
     pub fn new(rt: &'a R) -> OutSink<'a, R>
-        ensures { result ≡ 0 }
+        ensures { result.faults ≡ 0 }
     {
         OutSink { rt, faults: 0 }
     }
@@ -37,7 +37,7 @@ impl<R: Print> Sink for OutSink<'_, R> {
 
     ghost room = { λ _. 0 };
 
-    ghost faults = { λ faults. faults };
+    ghost faults = { λ s. s.faults };
 
     ghost fails = { λ _ _. false };
 

@@ -1,5 +1,5 @@
 // A whole file, read from a shelf.
-ghost use Rattle.std.specs.Prelude.{◌≡◌, ◌≤◌, ◌<◌, List, ℕ, Some, IsTrue, IsOk, IsSome, is_some, length, IfOk, OnOk, IsErrOf, IsSomeAnd};
+ghost use Rattle.std.specs.Prelude.{◌≡◌, ◌≤◌, ◌<◌, List, ℕ, Some, IsTrue, IsOk, IsSome, is_some, length, IfOk, OnOk, IsErrOf, IsSomeAnd, IsNone};
 ghost use Rattle.desk_ports.specs.Asked.{AsksOnce};
 ghost use Rattle.desk_ports.specs.Faults.{Rose, NoneFails};
 ghost use Rattle.desk_ports.specs.declared.reading.ReadRefusal.TheVariants.{Failed, NoMemory};
@@ -50,6 +50,9 @@ pub fn read_file<S: Shelf>(
     ensures whole { IsTrue S.tells → IfOk result (λ bytes. S.file shelf.old name.now ≡ Some bytes.items) }
     ensures fits { IfOk result (λ bytes. length bytes.items ≤ max) }
 
+    // A missing file is a failure of the shelf.
+    ensures missing { IsTrue S.tells → IsNone (S.file shelf.old name.now) → IsErrOf result ReadRefusal.Failed }
+
     // A file is too long exactly where it has more bytes, unless the shelf or memory failed before.
     ensures too_long { IsTrue S.tells → IsErrOf result ReadRefusal.TooLong
         → IsSomeAnd (S.file shelf.old name.now) (λ bytes. max < length bytes) }
@@ -73,11 +76,12 @@ pub fn read_file<S: Shelf>(
     ensures expects { S.expects shelf.new ≡ S.expects shelf.old }
 {
     shelf.start(name)?;
+    // One byte more than is allowed shows that the file is too long.
     let mut bytes = Vec::new(alloc);
     let mut room = [0u8; ROOM];
     while bytes.len() as u64 <= max {
         let left = max - bytes.len() as u64;
-        let want = if left < 4095 { left as usize + 1 } else { ROOM };
+        let want = left.min(ROOM as u64 - 1) as usize + 1;
         let count = shelf.take(&mut room[..want])?;
         if count == 0 {
             return Ok(bytes);
