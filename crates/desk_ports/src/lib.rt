@@ -22,5 +22,5 @@ pub use reading::{ReadRefusal, read_file};
 pub use shelf::{Shelf, ShelfFailed};
 pub use sink::{Sink, SinkFailed};
 
-
-
+#[cfg(test)]
+mod tests;

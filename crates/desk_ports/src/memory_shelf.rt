@@ -38,12 +38,12 @@ impl Model for MemShelf {
     ghost Value = { ShelfState };
 
     ghost view = { λ s. record {
-        files = files_of s.files.items;
-        fails = s.fails.items;
-        expected = option_map (λ names. map string_bytes names.items) s.expected;
-        left = option_map (λ place. drop place.byte (bytes_at (files_of s.files.items) place.file)) s.reading;
-        asked = s.asked;
-        faults = s.faults;
+      files = files_of s.files.items;
+      fails = s.fails.items;
+      expected = option_map (λ names. map string_bytes names.items) s.expected;
+      left = option_map (λ place. drop place.byte (bytes_at (files_of s.files.items) place.file)) s.reading;
+      asked = s.asked;
+      faults = s.faults;
     } };
 }
 

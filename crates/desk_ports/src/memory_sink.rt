@@ -25,11 +25,11 @@ impl Model for MemSink {
     ghost Value = { SinkState };
 
     ghost view = { λ s. record {
-        written = s.bytes.items;
-        room = s.room;
-        fails = s.fails.items;
-        calls = s.calls;
-        faults = s.faults;
+      written = s.bytes.items;
+      room = s.room;
+      fails = s.fails.items;
+      calls = s.calls;
+      faults = s.faults;
     } };
 
     ghost invariant = { λ s. vec_len s.bytes + s.room ≤ vec_capacity s.bytes };
