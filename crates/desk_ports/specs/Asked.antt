@@ -44,8 +44,9 @@ abbrev pub after_take : {E : Type 0} → Result ℕ E → Asked → Asked
 after_take (Ok count) a = after_bytes count a
 after_take (Err _) a = after_call a
 
--- one file was started, which may be there and may be expected, and at most one byte more than
--- the limit was taken of it
+-- one file was started, and at most one byte more than the limit was taken of it. Whether its name
+-- is there and is expected is known, so where this holds whatever names are expected no other name
+-- was started.
 pub record AsksOnce (there expected : Bool) (limit : ℕ) (old new : Asked) : Type 0 where
   pub starts : new.starts ≡ one_more old.starts
   pub missing : new.missing ≡ (if there then old.missing else one_more old.missing)

@@ -1,4 +1,4 @@
-use Rattle.std.specs.Prelude.{ℕ, Bool, true, List, [], bytes_eq, Option, Some, None, is_some, unwrap_or}
+use Rattle.std.specs.Prelude.{ℕ, Bool, true, List, bytes_eq, Option, Some, None}
 use Rattle.std.specs.List.{list_any}
 use Rattle.desk_ports.specs.declared.asked.Asked.{Asked}
 use Rattle.desk_ports.specs.Asked.{nothing_asked}

@@ -9,4 +9,5 @@ pub record Takes (old new room : List ℕ) (count : ℕ) : Type 0 where
 
 -- what a call of take does to the bytes left, by its answer: a failing call takes none
 abbrev pub TakesFrom : {E : Type 0} → List ℕ → List ℕ → List ℕ → Result ℕ E → Type 0
-TakesFrom old new room result = MatchResult result (λ count. Takes old new room count) (λ _. new ≡ old)
+TakesFrom old new room result =
+    MatchResult result (λ count. Takes old new room count) (λ _. new ≡ old)

@@ -1,5 +1,5 @@
 // A shelf over memory, which tells all and fails at the calls that it is told.
-ghost use Rattle.std.specs.Prelude.{◌≡◌, ◌≤◌, ◌<◌, [], List, ℕ, true, Some, None, is_some, unwrap_or, length, drop, map, string_bytes, IfSome, IfNone, option_copied};
+ghost use Rattle.std.specs.Prelude.{◌≡◌, ◌≤◌, ◌<◌, [], true, Some, None, is_some, unwrap_or, length, drop, map, string_bytes, IfSome, IfNone};
 ghost use Rattle.desk_ports.specs.Faults.{one_more, is_among, NoneFails};
 ghost use Rattle.desk_ports.specs.Files.{file_in, files_of, bytes_at};
 ghost use Rattle.desk_ports.specs.MemShelf.{new_shelf, is_expected};
@@ -41,7 +41,8 @@ impl Model for MemShelf {
       files = files_of s.files.items;
       fails = s.fails.items;
       expected = option_map (λ names. map string_bytes names.items) s.expected;
-      left = option_map (λ place. drop place.byte (bytes_at (files_of s.files.items) place.file)) s.reading;
+      left = option_map
+          (λ place. drop place.byte (bytes_at (files_of s.files.items) place.file)) s.reading;
       asked = s.asked;
       faults = s.faults;
     } };
@@ -105,7 +106,8 @@ impl MemShelf {
 #[tactic(auto, using(crate::proofs::FilesLemmas::file_lemmas))]
 // The index of the first file of a name.
 fn place_of(files: &[(String, Vec<u8>)], name: &str) -> Option<usize>
-    ensures found { IfSome result (λ file. file_in (files_of files.now) name.now ≡ Some (bytes_at (files_of files.now) file)) }
+    ensures found { IfSome result (λ file.
+        file_in (files_of files.now) name.now ≡ Some (bytes_at (files_of files.now) file)) }
     ensures none { IfNone result (file_in (files_of files.now) name.now ≡ None) }
 {
     for (index, file) in files.iter().enumerate() {

@@ -1,5 +1,5 @@
 // A sink over memory, which tells all and fails at the calls that it is told.
-ghost use Rattle.std.specs.Prelude.{◌≡◌, ◌≤◌, [], true, IfOk, length};
+ghost use Rattle.std.specs.Prelude.{◌≡◌, ◌≤◌, [], true, IfOk};
 ghost use Rattle.desk_ports.specs.Faults.{is_among, NoneFails};
 ghost use Rattle.desk_ports.specs.MemSink.{new_sink};
 
@@ -40,7 +40,8 @@ impl MemSink {
     /// which the bytes that fit are written.
     pub fn new(alloc: Global, room: usize, fails: Vec<u64>) -> Result<MemSink, NoMemory>
         ensures made { IfOk result (λ sink. sink ≡ new_sink room fails.items) }
-        ensures never { fails.items ≡ [] → IfOk result (λ sink. NoneFails (⟦<MemSink as Sink>⟧.fails sink)) }
+        ensures never { fails.items ≡ []
+            → IfOk result (λ sink. NoneFails (⟦<MemSink as Sink>⟧.fails sink)) }
     {
         Ok(MemSink {
             bytes: Vec::with_capacity(alloc, room)?,

@@ -32,7 +32,8 @@ pub trait Shelf {
     /// Whether the call with this number, counted from 0, is told to fail.
     ghost fails: { Self → ℕ → Bool };
 
-    /// The names that are expected: starts of all others are counted apart.
+    /// The names that are expected. Starts of all others are counted apart, so a call that leaves
+    /// that count as it is, whatever names are expected, starts no other name.
     ghost expects: { Self → List ℕ → Bool };
 
     /// What was asked.
@@ -49,8 +50,8 @@ pub trait Shelf {
         ensures told { IsTrue tells → IsTrue (fails self.old (asked self.old).calls) → IsErr result }
         ensures succeeds { IsTrue tells → fails self.old (asked self.old).calls ≡ false
             → IsSome (file self.old name.now) → IsOk result }
-        ensures asked { IsTrue tells → asked self.new ≡
-            after_start (is_some (file self.old name.now)) (expects self.old name.now) (asked self.old) }
+        ensures asked { IsTrue tells → asked self.new ≡ after_start
+            (is_some (file self.old name.now)) (expects self.old name.now) (asked self.old) }
 
         // What stays.
         ensures files { file self.new ≡ file self.old }
@@ -68,7 +69,8 @@ pub trait Shelf {
         // What it does, where the form tells.
         ensures bytes { IsTrue tells → TakesFrom (left self.old) (left self.new) room.new result }
         ensures told { IsTrue tells → IsTrue (fails self.old (asked self.old).calls) → IsErr result }
-        ensures succeeds { IsTrue tells → fails self.old (asked self.old).calls ≡ false → IsOk result }
+        ensures succeeds { IsTrue tells → fails self.old (asked self.old).calls ≡ false
+            → IsOk result }
         ensures asked { IsTrue tells → asked self.new ≡ after_take result (asked self.old) }
 
         // What stays.

@@ -33,9 +33,10 @@ pub trait Sink {
 
         // What it does, where the form tells.
         ensures ok { IsTrue tells → OnOk result (written self.new ≡ written self.old ++ piece.now) }
-        ensures err { IsTrue tells → OnErr result (AppendsPart (written self.old) (written self.new) piece.now) }
-        ensures room { IsTrue tells →
-            room self.new + length (written self.new) ≡ room self.old + length (written self.old) }
+        ensures err { IsTrue tells
+            → OnErr result (AppendsPart (written self.old) (written self.new) piece.now) }
+        ensures room { IsTrue tells
+            → room self.new + length (written self.new) ≡ room self.old + length (written self.old) }
         ensures told { IsTrue tells → IsTrue (fails self.old (calls self.old)) → IsErr result }
         ensures full { IsTrue tells → room self.old < length piece.now → IsErr result }
         ensures succeeds { IsTrue tells → fails self.old (calls self.old) ≡ false
