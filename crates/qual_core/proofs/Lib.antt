@@ -1,0 +1,5 @@
+pub mod Cutting
+pub mod Fronts
+pub mod Grammar
+pub mod LibertyGrammar
+pub mod VerilogGrammar

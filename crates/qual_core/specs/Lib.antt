@@ -1,0 +1,10 @@
+pub mod Tokens
+pub mod Reading
+pub mod Spelling
+pub mod Names
+pub mod Liberty
+pub mod LibertyReading
+pub mod Verilog
+pub mod VerilogReading
+pub mod Meaning
+pub mod Compare
