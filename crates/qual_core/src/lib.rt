@@ -4,5 +4,7 @@
 mod compare;
 mod cursor;
 mod liberty;
+mod names;
+mod reply;
 mod stop;
 mod verilog;
