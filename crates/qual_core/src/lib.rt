@@ -5,6 +5,7 @@ mod compare;
 mod cursor;
 mod liberty;
 mod names;
+mod network;
 mod reply;
 mod stop;
 mod verilog;
