@@ -4,3 +4,5 @@ pub mod Grammar
 pub mod LibertyGrammar
 pub mod VerilogGrammar
 pub mod Files
+pub mod Settling
+pub mod Tallies

@@ -4,7 +4,7 @@ use Rattle.tern_core.specs.declared.tern.Tern.{Tern}
 use Rattle.tern_core.specs.declared.tern.Tern.TheVariants.{Unknown}
 use Rattle.qual_core.specs.Meaning.{conjunction, disjunction, negated_if, gate_value}
 use Rattle.qual_core.specs.Verilog.{first_net, driven_nets}
-use Rattle.qual_core.specs.Compare.{Values, is_different, is_known}
+use Rattle.qual_core.specs.Compare.{is_different, is_known}
 use Rattle.qual_core.specs.declared.liberty.Factor.{Factor}
 use Rattle.qual_core.specs.declared.liberty.Cell.{Cell}
 use Rattle.qual_core.specs.declared.verilog.Gate.{Gate}
@@ -13,6 +13,7 @@ use Rattle.qual_core.specs.declared.network.Literal.{Literal}
 use Rattle.qual_core.specs.declared.network.Node.{Node}
 use Rattle.qual_core.specs.declared.network.Network.{Network}
 use Rattle.qual_core.specs.declared.compare.Mismatch.{Mismatch}
+use Rattle.qual_core.specs.declared.compare.Values.{Values}
 use Rattle.qual_core.specs.declared.compare.Tally.{Tally}
 
 -- the place of the first of the names that is this one, or their number

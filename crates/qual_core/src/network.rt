@@ -4,10 +4,11 @@ ghost use Rattle.qual_core.specs.Meaning.{negated_if, conjunction, disjunction, 
 ghost use Rattle.qual_core.specs.Verilog.{driven_nets};
 ghost use Rattle.qual_core.specs.Network.{place_in, value_at, literal_of, product_of, sum_of, node_of, nodes_of, network_of, literal_value, product_value, sum_value, node_value, values_after, row_of, inputs_of_gate};
 
+use crate::compare::Values;
 use crate::liberty::{Cell, Factor};
 use crate::names::copied_names;
 use crate::stop::Stop;
-use crate::verilog::{Gate, GateKind, Module};
+use crate::verilog::{Gate, GateKind, Module, first_net};
 use std::alloc::Global;
 use tern_core::{Tern, and, not, or};
 use text_scan::{Items, Text};
@@ -117,6 +118,43 @@ fn node_of(alloc: Global, known: &[Text], gate: &Gate) -> Result<Node, Stop>
     })
 }
 
+// The gates over the places of nets; their outputs become known one after the other.
+fn nodes_of(
+    alloc: Global,
+    known: &mut Items<Text>,
+    gates: &[Gate],
+) -> Result<Items<Node>, Stop>
+    ensures ok { IfOk result (λ n. n ≡ nodes_of known.old gates.now) }
+    ensures known { OnOk result (known.new ≡ known.old ++ driven_nets gates.now) }
+    ensures cause { IsErrOf result Stop.Refused → ⊥ }
+{
+    let mut nodes = Items::new(alloc);
+    for gate in gates {
+        let node = node_of(alloc, known.as_slice(), gate)?;
+        nodes.push(node)?;
+        let output = Text::from_bytes(alloc, first_net(gate.nets.as_slice()))?;
+        known.push(output)?;
+    }
+    Ok(nodes)
+}
+
+/// Resolves each name once.
+pub(crate) fn network_of(alloc: Global, cell: &Cell, module: &Module) -> Result<Network, Stop>
+    ensures ok { IfOk result (λ n. n ≡ network_of cell.now module.now) }
+    ensures cause { IsErrOf result Stop.Refused → ⊥ }
+{
+    let inputs = cell.inputs.as_slice();
+    let function = sum_of(alloc, inputs, cell.function.as_slice())?;
+    let mut nets = copied_names(alloc, inputs)?;
+    let nodes = nodes_of(alloc, &mut nets, module.gates.as_slice())?;
+    let output = place_in(nets.as_slice(), cell.output.as_bytes());
+    Ok(Network {
+        function,
+        nodes,
+        output,
+    })
+}
+
 fn literal_value(pins: &[Tern], literal: &Literal) -> Tern
     ensures { result ≡ literal_value pins.now literal.now }
 {
@@ -185,4 +223,20 @@ fn settle(nodes: &[Node], values: &mut Vec<Tern>) -> Result<(), Stop>
         values.push(value)?;
     }
     Ok(())
+}
+
+impl Network {
+    /// Liberty's value and Verilog's at the vector that `values` holds. It leaves the vector there.
+    pub(crate) fn row(&self, values: &mut Vec<Tern>) -> Result<Values, Stop>
+        ensures ok { IfOk result (λ v. v ≡ row_of self.now values.old.items) }
+        ensures vector { OnOk result (values.new.items ≡ values.old.items) }
+        ensures cause { IsErrOf result Stop.Refused → ⊥ }
+    {
+        let liberty = sum_value(values.as_slice(), self.function.as_slice());
+        let inputs = values.len();
+        settle(self.nodes.as_slice(), values)?;
+        let verilog = value_at(values.as_slice(), self.output);
+        values.truncate(inputs);
+        Ok(Values { liberty, verilog })
+    }
 }

@@ -145,7 +145,7 @@ fn has_count(kind: GateKind, nets: &[Text]) -> bool
 }
 
 // The name of the net that a gate drives.
-fn first_net(nets: &[Text]) -> &[u8]
+pub(crate) fn first_net(nets: &[Text]) -> &[u8]
     ensures { result.now ≡ first_net nets.now }
 {
     match nets.first() {
