@@ -6,3 +6,4 @@ pub mod VerilogGrammar
 pub mod Files
 pub mod Settling
 pub mod Tallies
+pub mod Lines

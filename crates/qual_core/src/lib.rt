@@ -8,4 +8,5 @@ mod names;
 mod network;
 mod reply;
 mod stop;
+mod text;
 mod verilog;
