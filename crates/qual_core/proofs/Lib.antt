@@ -7,3 +7,4 @@ pub mod Files
 pub mod Settling
 pub mod Tallies
 pub mod Lines
+pub mod Equal
