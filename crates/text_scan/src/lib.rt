@@ -1,15 +1,28 @@
 //! Texts, tokens and what every reader shares.
 #![tactic(auto)]
 
+mod bytes;
+mod cursor;
 mod items;
+mod limits;
 mod memory;
-mod pins;
+mod piece;
+mod pin;
+mod place;
+mod reading;
+mod refusal;
+mod search;
 mod text;
+mod token;
 
+pub use cursor::Cursor;
 pub use items::Items;
+pub use limits::{LimitKind, Limits};
 pub use memory::NoMemory;
-pub use pins::{Direction, PinKind};
+pub use pin::{Direction, PinKind};
+pub use refusal::FileRefusal;
 pub use text::Text;
+pub use token::{Kind, Place, Span, Style, Token};
 
 #[cfg(test)]
 mod tests {

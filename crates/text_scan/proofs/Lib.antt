@@ -1,0 +1,4 @@
+pub mod Until
+pub mod Size
+pub mod Places
+pub mod Scan

@@ -1,0 +1,117 @@
+//! The tokens of a text, one by one.
+ghost use Rattle.std.specs.Prelude.{◌≡◌, ◌≤◌, ◌<◌, ◌+◌, ◌∷◌, [], length, take, drop, false, MatchOption, IfSome, slice_range};
+ghost use Rattle.text_scan.specs.declared.token.Kind.TheVariants.{End};
+ghost use Rattle.text_scan.specs.Tokens.{token, after, tokens_of};
+ghost use Rattle.text_scan.specs.Left as spec;
+
+use crate::cursor::Cursor;
+use crate::piece::{Piece, piece_of};
+use crate::token::{Kind, Place, Span, Style, Token};
+
+#[tactic(auto, unfolding(crate::specs::Tokens::token))]
+fn make_token(kind: Kind, start: Place, end: usize) -> Token
+    ensures { result ≡ token kind start end }
+{
+    Token {
+        kind,
+        span: Span {
+            line: start.line,
+            column: start.column,
+            start: start.at,
+            end,
+        },
+    }
+}
+
+impl Token {
+    /// The token's bytes in the text that it stands in.
+    pub fn text<'a>(self, source: &'a [u8]) -> &'a [u8]
+        requires { spec.IsSliceOf source.now self }
+        ensures { result.now ≡ slice_range source.now self.span.start self.span.end }
+    {
+        &source[self.span.start..self.span.end]
+    }
+}
+
+impl<'a> Cursor<'a> {
+    /// Stands before the first token of the text.
+    #[tactic(auto, unfolding(crate::specs::Left::left, crate::specs::Left::tokens_at, crate::specs::Left::source, crate::specs::Tokens::tokens_of))]
+    pub fn new(text: &'a [u8], style: Style) -> Cursor<'a>
+        ensures source { spec.source result ≡ text.now }
+        ensures left { spec.left result ≡ tokens_of style text.now }
+    {
+        Cursor {
+            source: text,
+            style,
+            place: Place::start(),
+        }
+    }
+
+    // Goes over so many bytes.
+    fn advance(&mut self, n: usize)
+        requires { self.old.place.at + n ≤ length self.old.source.now }
+        ensures source { self.new.source.now ≡ self.old.source.now }
+        ensures style { self.new.style ≡ self.old.style }
+        ensures place { self.new.place ≡ after self.old.place (take n (drop self.old.place.at self.old.source.now)) }
+        ensures at { self.new.place.at ≡ self.old.place.at + n }
+    {
+        let end = self.place.at + n;
+        self.place = self.place.after(&self.source[self.place.at..end]);
+    }
+
+    // Goes over the piece that begins here, and answers its token.
+    fn turn(&mut self) -> Option<Token>
+        requires { self.old.place.at < length self.old.source.now }
+        ensures source { self.new.source.now ≡ self.old.source.now }
+        ensures further { self.old.place.at < self.new.place.at }
+        ensures next { MatchOption result
+            (spec.left self.old ≡ spec.left self.new)
+            (λ t. spec.left self.old ≡ t ∷ spec.left self.new) }
+        ensures no_end { IfSome result (λ t. spec.is_end t.kind ≡ false) }
+        ensures slice { IfSome result (spec.IsSliceOf self.old.source.now) }
+    {
+        let text = &self.source[self.place.at..];
+        let start = self.place;
+        match piece_of(self.style, text[0], &text[1..], text) {
+            Piece::Passed(n) => {
+                self.advance(n);
+                None
+            }
+            Piece::Shown(kind, n) => {
+                self.advance(n);
+                Some(make_token(kind, start, start.at + n))
+            }
+        }
+    }
+
+    // The next token before the end.
+    #[tactic(auto, using(crate::proofs::Scan::left_read))]
+    fn scan(&mut self) -> Option<Token>
+        ensures source { self.new.source.now ≡ self.old.source.now }
+        ensures next { MatchOption result
+            (spec.left self.old ≡ token End self.new.place self.new.place.at ∷ [])
+            (λ t. spec.left self.old ≡ t ∷ spec.left self.new) }
+        ensures no_end { IfSome result (λ t. spec.is_end t.kind ≡ false) }
+        ensures slice { IfSome result (spec.IsSliceOf self.old.source.now) }
+    {
+        while self.place.at < self.source.len() {
+            if let Some(token) = self.turn() {
+                return Some(token);
+            }
+        }
+        None
+    }
+
+    /// The next token; after the last one the end, again and again.
+    #[tactic(auto, using(crate::proofs::Scan::same_source, crate::proofs::Scan::goes_on, crate::proofs::Scan::ends_here))]
+    pub fn next_token(&mut self) -> Token
+        ensures source { spec.source self.new ≡ spec.source self.old }
+        ensures next { spec.left self.old ≡ spec.followed result (spec.left self.new) }
+        ensures slice { spec.IsSliceOf (spec.source self.new) result }
+    {
+        match self.scan() {
+            Some(token) => token,
+            None => make_token(Kind::End, self.place, self.place.at),
+        }
+    }
+}
