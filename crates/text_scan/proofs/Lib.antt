@@ -2,3 +2,4 @@ pub mod Until
 pub mod Size
 pub mod Places
 pub mod Scan
+pub mod Flat

@@ -1,6 +1,6 @@
 -- Places after many bytes.
 use Rattle.std.proofs.Common.{◌≡◌, ℕ, suc, ◌+◌, ◌<◌, ◌≤◌, Bool, true, false, cond, eqb, min, List, [], ◌∷◌, length, drop, take, refl, ap, sym, ◌∙◌, arith}
-use Rattle.std.proofs.Common.{◌-◌, length-drop}
+use Rattle.std.proofs.Common.{get_or, ◌-◌, length-drop}
 use Rattle.std.proofs.lemmas.List.{take_rest, drop-drop}
 use Rattle.std.proofs.Math.ListN.{drop_of_length-le}
 use Rattle.text_scan.specs.declared.token.Place.{Place}
@@ -83,3 +83,9 @@ after_line_part xs i n p le e within part =
 pub after_none : (xs : List ℕ) (i : ℕ) (p : Place) → length xs ≤ i → after p (drop i xs) ≡ p
 unfolding after
 after_none xs i p h = ap (after p) (drop_of_length-le xs h)
+
+pub after_one : (xs : List ℕ) (p : Place) → length xs ≡ 1 → after p xs ≡ over (get_or xs 0 0) p
+unfolding after
+after_one [] p h = absurd (omega arith)
+after_one (b ∷ []) p h = refl
+after_one (b ∷ c ∷ bs) p h = absurd (omega arith)

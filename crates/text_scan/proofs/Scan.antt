@@ -1,9 +1,9 @@
 -- One piece further in a text.
-use Rattle.std.proofs.Common.{◌≡◌, ℕ, zero, suc, ◌+◌, ◌-◌, ◌<◌, ◌≤◌, List, [], ◌∷◌, length, length-drop, drop, take, false, get_or, cond, refl, ap, sym, subst, ◌∙◌, arith}
+use Rattle.std.proofs.Common.{◌≡◌, ℕ, zero, suc, ◌+◌, ◌-◌, ◌<◌, ◌≤◌, List, [], ◌∷◌, length, length-drop, drop, take, true, false, get_or, cond, refl, ap, sym, subst, ◌∙◌, arith}
 use Rattle.std.proofs.lemmas.List.{drop_more, take_rest, drop-drop, length-take-le}
 use Rattle.std.proofs.Math.ListN.{drop_of_length-le}
 use Rattle.text_scan.specs.declared.token.Kind.{Kind}
-use Rattle.text_scan.specs.declared.token.Kind.TheVariants.{End}
+use Rattle.text_scan.specs.declared.token.Kind.TheVariants.{End, Word}
 use Rattle.text_scan.specs.declared.token.Style.{Style}
 use Rattle.text_scan.specs.declared.token.Place.{Place}
 use Rattle.text_scan.specs.declared.token.Token.{Token}
@@ -13,6 +13,11 @@ use Rattle.text_scan.specs.Tokens.{over, after, token, size, before, tokens}
 use Rattle.text_scan.specs.Left.{tokens_at, is_end, left, source, followed, IsSliceOf}
 use Rattle.text_scan.specs.declared.cursor.Cursor.{Cursor}
 use Rattle.text_scan.proofs.Places.{after_at}
+use Rattle.text_scan.specs.Bytes.{until, is_blank}
+use Rattle.text_scan.specs.Pieces.{ends_run}
+use Rattle.text_scan.specs.Jumps.{forward}
+use Rattle.text_scan.proofs.Until.{until-le}
+use Rattle.text_scan.proofs.Flat.{after_word, blanks_pass, flat-run}
 use Rattle.text_scan.proofs.Size.{piece-fits, ends}
 
 -- what is left of a piece is gone over
@@ -106,6 +111,54 @@ pub left_passed : (c d : Cursor) (n : ℕ) → c.place.at < length c.source.now
     → d.source.now ≡ c.source.now → d.style ≡ c.style → d.place ≡ after c.place (take n (drop c.place.at c.source.now)) → left c ≡ left d
 unfolding left
 left_passed c d n h is source style place = passed c.style c.source.now c.place _ _ n (parts c.source.now c.place.at h) is ∙ moved c d n source style place
+
+-- the place after a word
+pub word_place : (c : Cursor) (n : ℕ) → c.place.at < length c.source.now
+    → Shown Word n ≡ piece c.style (get_or (rest_at c.source.now c.place.at) 0 0) (rest_at (rest_at c.source.now c.place.at) 1)
+    → forward n c.place ≡ after c.place (take n (drop c.place.at c.source.now))
+word_place c n h is = sym (ap (λ z. after c.place (take n z)) (parts c.source.now c.place.at h) ∙ after_word c.style _ _ n c.place is)
+
+blank_some : (xs : List ℕ) → is_blank (get_or xs 0 0) ≡ true → 0 < length xs → 0 < until (ends_run is_blank) xs
+unfolding until ends_run
+blank_some [] h le = absurd (omega arith)
+blank_some (b ∷ bs) h le = subst (λ z. 0 < cond (cond z false true) 0 (suc (until (ends_run is_blank) bs))) (sym h) (omega arith)
+
+blank_stops : (xs : List ℕ) → ends_run is_blank (10 ∷ xs) ≡ true
+unfolding ends_run is_blank
+blank_stops xs = refl
+
+-- the run of blanks that a cursor stands before
+pub record Blanks (c : Cursor) : Type 0 where
+  pub some : 0 < until (ends_run is_blank) (rest_at c.source.now c.place.at)
+  pub same : until (ends_run is_blank) (rest_at c.source.now c.place.at) ≡ until (ends_run is_blank) (drop c.place.at c.source.now)
+  pub place : after c.place (take (until (ends_run is_blank) (drop c.place.at c.source.now)) (drop c.place.at c.source.now)) ≡ forward (until (ends_run is_blank) (rest_at c.source.now c.place.at)) c.place
+
+pub blanks : (c : Cursor) → c.place.at < length c.source.now → is_blank (get_or c.source.now c.place.at 0) ≡ true → Blanks c
+blanks c h b =
+    let xs : List ℕ = drop c.place.at c.source.now in
+    let same : rest_at c.source.now c.place.at ≡ xs = take_rest c.source.now c.place.at in
+    let len : length xs ≡ length c.source.now - c.place.at = length-drop c.place.at c.source.now in
+    let head : get_or xs 0 0 ≡ get_or c.source.now c.place.at 0 = ap (λ z. get_or z 0 0) (drop_more c.source.now c.place.at 0 h) in
+    let some : 0 < until (ends_run is_blank) xs = blank_some xs (ap is_blank head ∙ b) (omega arith) in
+    let moved : until (ends_run is_blank) (rest_at c.source.now c.place.at) ≡ until (ends_run is_blank) xs = ap (until (ends_run is_blank)) same in
+    record {
+      some = omega arith;
+      same = moved;
+      place = flat-run (ends_run is_blank) blank_stops xs c.place some ∙ ap (λ z. forward z c.place) (sym moved);
+    }
+
+pub left_blanks : (c d : Cursor) → c.place.at < length c.source.now → is_blank (get_or c.source.now c.place.at 0) ≡ true
+    → d.source.now ≡ c.source.now → d.style ≡ c.style → d.place ≡ forward (until (ends_run is_blank) (rest_at c.source.now c.place.at)) c.place → left c ≡ left d
+unfolding left tokens_at
+left_blanks c d h b source style place =
+    let xs : List ℕ = drop c.place.at c.source.now in
+    let n : ℕ = until (ends_run is_blank) xs in
+    let run = blanks c h b in
+    let le : n ≤ length xs = until-le (ends_run is_blank) xs in
+    let at : (after c.place (take n xs)).at ≡ c.place.at + n = after_at (take n xs) c.place ∙ ap (λ z. c.place.at + z) (length-take-le n xs le) in
+    blanks_pass c.style c.place xs
+    ∙ ap (tokens c.style (after c.place (take n xs)) 0) (drop-drop n c.place.at c.source.now ∙ ap (λ z. drop z c.source.now) (sym at))
+    ∙ moved c d n source style (place ∙ sym run.place)
 
 pub left_shown : (c d : Cursor) (kind : Kind) (n : ℕ) → c.place.at < length c.source.now
     → Shown kind n ≡ piece c.style (get_or (rest_at c.source.now c.place.at) 0 0) (rest_at (rest_at c.source.now c.place.at) 1)

@@ -121,3 +121,13 @@ pub(crate) fn ends_number(text: &[u8]) -> bool
         [byte, ..] => !is_number_byte(*byte),
     }
 }
+
+#[tactic(auto, unfolding(crate::specs::Pieces::ends_run))]
+pub(crate) fn ends_blanks(text: &[u8]) -> bool
+    ensures { result ≡ pieces.ends_run spec.is_blank text.now }
+{
+    match text {
+        [] => true,
+        [byte, ..] => !is_blank(*byte),
+    }
+}

@@ -1,6 +1,6 @@
 //! Going on in a text.
 ghost use Rattle.std.specs.Prelude.{◌≡◌, ◌≤◌, ◌<◌, ◌+◌, ◌^◌, length};
-ghost use Rattle.text_scan.specs.Tokens.{after, start};
+ghost use Rattle.text_scan.specs.Tokens.{after, over, start};
 ghost use Rattle.text_scan.specs.Jumps.{forward, line_after};
 
 use crate::search::until_byte;
@@ -18,7 +18,7 @@ impl Place {
     }
 
     // The place so many bytes further on the same line.
-    fn forward(self, n: usize) -> Place
+    pub(crate) fn forward(self, n: usize) -> Place
         requires { self.at + n < 2 ^ 64 }
         ensures { result ≡ forward n self }
     {
@@ -61,6 +61,30 @@ impl Place {
         place
     }
 
+    #[tactic(auto, unfolding(crate::specs::Tokens::over))]
+    fn over(self, byte: u8) -> Place
+        requires { self.at + 1 < 2 ^ 64 }
+        ensures { result ≡ over byte self }
+    {
+        if byte == b'\n' {
+            self.line_after(1)
+        } else {
+            self.forward(1)
+        }
+    }
+
+    #[tactic(auto, using(crate::proofs::Places::after_one))]
+    fn after_bytes(self, bytes: &[u8]) -> Place
+        requires { self.at + length bytes.now < 2 ^ 64 }
+        ensures { result ≡ after self bytes.now }
+    {
+        if bytes.len() == 1 {
+            self.over(bytes[0])
+        } else {
+            self.after_lines(bytes)
+        }
+    }
+
     // The place after these bytes.
     #[tactic(auto, using(crate::proofs::Places::after_at))]
     pub(crate) fn after(self, bytes: &[u8]) -> Place
@@ -68,6 +92,6 @@ impl Place {
         ensures value { result ≡ after self bytes.now }
         ensures at { result.at ≡ self.at + length bytes.now }
     {
-        self.after_lines(bytes)
+        self.after_bytes(bytes)
     }
 }

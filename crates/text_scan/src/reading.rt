@@ -1,11 +1,15 @@
 //! The tokens of a text, one by one.
-ghost use Rattle.std.specs.Prelude.{◌≡◌, ◌≤◌, ◌<◌, ◌+◌, ◌∷◌, [], length, take, drop, false, MatchOption, IfSome, slice_range};
-ghost use Rattle.text_scan.specs.declared.token.Kind.TheVariants.{End};
+ghost use Rattle.std.specs.Prelude.{◌≡◌, ◌≤◌, ◌<◌, ◌+◌, ◌∷◌, [], length, take, drop, false, MatchOption, IfSome, slice_range, slice_index, true};
+ghost use Rattle.text_scan.specs.Bytes.{is_blank};
+ghost use Rattle.text_scan.specs.declared.token.Kind.TheVariants.{End, Word};
 ghost use Rattle.text_scan.specs.Tokens.{token, after, tokens_of};
+ghost use Rattle.text_scan.specs.Jumps.{forward};
 ghost use Rattle.text_scan.specs.Left as spec;
 
+use crate::bytes;
 use crate::cursor::Cursor;
 use crate::piece::{Piece, piece_of};
+use crate::search::until_blanks_end;
 use crate::token::{Kind, Place, Span, Style, Token};
 
 #[tactic(auto, unfolding(crate::specs::Tokens::token))]
@@ -59,6 +63,22 @@ impl<'a> Cursor<'a> {
         self.place = self.place.after(&self.source[self.place.at..end]);
     }
 
+    // Goes over a token of so many bytes. No line ends in a word.
+    fn advance_token(&mut self, kind: Kind, n: usize)
+        requires within { self.old.place.at + n ≤ length self.old.source.now }
+        requires word { kind ≡ Word → forward n self.old.place
+            ≡ after self.old.place (take n (drop self.old.place.at self.old.source.now)) }
+        ensures source { self.new.source.now ≡ self.old.source.now }
+        ensures style { self.new.style ≡ self.old.style }
+        ensures place { self.new.place ≡ after self.old.place (take n (drop self.old.place.at self.old.source.now)) }
+        ensures at { self.new.place.at ≡ self.old.place.at + n }
+    {
+        match kind {
+            Kind::Word => self.place = self.place.forward(n),
+            _ => self.advance(n),
+        }
+    }
+
     // Goes over the piece that begins here, and answers its token.
     fn turn(&mut self) -> Option<Token>
         requires { self.old.place.at < length self.old.source.now }
@@ -78,10 +98,22 @@ impl<'a> Cursor<'a> {
                 None
             }
             Piece::Shown(kind, n) => {
-                self.advance(n);
+                self.advance_token(kind, n);
                 Some(make_token(kind, start, start.at + n))
             }
         }
+    }
+
+    // Goes over the blanks that stand here.
+    fn skip_blanks(&mut self)
+        requires within { self.old.place.at < length self.old.source.now }
+        requires blank { is_blank (slice_index self.old.source.now self.old.place.at) ≡ true }
+        ensures source { self.new.source.now ≡ self.old.source.now }
+        ensures further { self.old.place.at < self.new.place.at }
+        ensures next { spec.left self.old ≡ spec.left self.new }
+    {
+        let n = until_blanks_end(&self.source[self.place.at..]);
+        self.place = self.place.forward(n);
     }
 
     // The next token before the end.
@@ -95,7 +127,9 @@ impl<'a> Cursor<'a> {
         ensures slice { IfSome result (spec.IsSliceOf self.old.source.now) }
     {
         while self.place.at < self.source.len() {
-            if let Some(token) = self.turn() {
+            if bytes::is_blank(self.source[self.place.at]) {
+                self.skip_blanks();
+            } else if let Some(token) = self.turn() {
                 return Some(token);
             }
         }

@@ -1,6 +1,6 @@
 //! How far the bytes at the front of a text go on.
 ghost use Rattle.std.specs.Prelude.{◌≡◌, ◌≤◌, ◌+◌, length};
-ghost use Rattle.text_scan.specs.Bytes.{until, begins_with, begins_with_pair, is_identifier_byte, is_number_byte};
+ghost use Rattle.text_scan.specs.Bytes.{until, begins_with, begins_with_pair, is_blank, is_identifier_byte, is_number_byte};
 ghost use Rattle.text_scan.specs.Pieces.{ends_liberty_word, ends_run, begins_space};
 
 use crate::bytes;
@@ -73,6 +73,18 @@ pub(crate) fn until_liberty_word_end(text: &[u8]) -> usize
 {
     for i in 0..text.len() {
         if bytes::ends_liberty_word(&text[i..]) {
+            return i;
+        }
+    }
+    text.len()
+}
+
+pub(crate) fn until_blanks_end(text: &[u8]) -> usize
+    ensures value { result ≡ until (ends_run is_blank) text.now }
+    ensures within { result ≤ length text.now }
+{
+    for i in 0..text.len() {
+        if bytes::ends_blanks(&text[i..]) {
             return i;
         }
     }

@@ -1,0 +1,28 @@
+#!/bin/sh
+# Prints how many times as fast as sha256sum the proved tokenizer goes over a Liberty file of 100 MB.
+# Needs the program: (cd crates/token_count && rt run -- FILE) builds crates/token_count/out/token_count.
+set -eu
+cd "$(dirname "$0")/.."
+program=crates/token_count/out/token_count
+[ -x "$program" ] || (cd crates/token_count && rt run > /dev/null)
+file=$(mktemp)
+trap 'rm -f "$file"' EXIT
+python3 bench/make_liberty.py "${1:-100}" "$file"
+python3 - "$program" "$file" <<'P'
+import subprocess, sys, time
+
+program, path = sys.argv[1:]
+
+def best(command, times=5):
+    results = []
+    for _ in range(times):
+        begin = time.perf_counter()
+        subprocess.run(command, check=True, stdout=subprocess.DEVNULL)
+        results.append(time.perf_counter() - begin)
+    return min(results)
+
+open(path, "rb").read()
+sha, tokens = best(["sha256sum", path]), best([program, path])
+print(subprocess.run([program, path], check=True, capture_output=True, text=True).stdout.strip())
+print(f"sha256sum {sha:.3f} s, tokens {tokens:.3f} s, ratio {sha / tokens:.2f}")
+P
