@@ -1,0 +1,7 @@
+pub mod Fronts
+pub mod Cuts
+pub mod Tells
+pub mod Stops
+pub mod Complete
+pub mod Refuses
+pub mod Answer
