@@ -3,3 +3,4 @@ pub mod Size
 pub mod Places
 pub mod Scan
 pub mod Flat
+pub mod Firm

@@ -4,3 +4,4 @@ pub mod Tokens
 pub mod Jumps
 pub mod Left
 pub mod Limits
+pub mod Firm

@@ -4,6 +4,7 @@
 mod bytes;
 mod cursor;
 mod items;
+mod laws;
 mod limits;
 mod memory;
 mod piece;
@@ -17,6 +18,7 @@ mod token;
 
 pub use cursor::Cursor;
 pub use items::Items;
+pub use laws::{firm_tokens_stay, one_token_is_open};
 pub use limits::{LimitKind, Limits};
 pub use memory::NoMemory;
 pub use pin::{Direction, PinKind};
