@@ -6,6 +6,9 @@ ghost use Rattle.text_scan.specs.Jumps.{forward, line_after};
 use crate::search::until_byte;
 use crate::token::Place;
 
+// Lines and columns count from 1.
+const FIRST_COLUMN: u32 = 1;
+
 impl Place {
     pub(crate) fn start() -> Place
         ensures { result ≡ start }
@@ -13,7 +16,7 @@ impl Place {
         Place {
             at: 0,
             line: 1,
-            column: 1,
+            column: FIRST_COLUMN,
         }
     }
 
@@ -38,7 +41,7 @@ impl Place {
         Place {
             at: self.at + n,
             line: self.line.saturating_add(1),
-            column: 1,
+            column: FIRST_COLUMN,
         }
     }
 
