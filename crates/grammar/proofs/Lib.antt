@@ -5,3 +5,4 @@ pub mod Stops
 pub mod Complete
 pub mod Refuses
 pub mod Answer
+pub mod Sums
