@@ -82,10 +82,6 @@ pub same_source : (c d : Cursor) → c.source.now ≡ d.source.now → source c 
 unfolding source
 same_source c d h = h
 
-pub goes_on : (t : Token) (ts : List Token) → is_end t.kind ≡ false → followed t ts ≡ t ∷ ts
-unfolding followed
-goes_on t ts h = ap (λ z. cond z (t ∷ []) (t ∷ ts)) h
-
 pub ends_here : (p : Place) (n : ℕ) (ts : List Token) → followed (token End p n) ts ≡ token End p n ∷ []
 unfolding followed token
 ends_here p n ts = refl
@@ -167,18 +163,16 @@ unfolding left
 left_shown c d kind n h is source style place =
     shown c.style c.source.now c.place _ _ kind n (parts c.source.now c.place.at h) is ∙ ap (λ z. token kind c.place (c.place.at + n) ∷ z) (moved c d n source style place)
 
-pub token_kind : (kind : Kind) (p : Place) (n : ℕ) → is_end kind ≡ false → (token kind p n).kind ≡ kind
-unfolding token
-token_kind kind p n h = refl
-
-pub token_slice : (text : List ℕ) (kind : Kind) (p : Place) (n : ℕ) → p.at ≤ n → n ≤ length text → IsSliceOf text (token kind p n)
-unfolding token
-token_slice text kind p n h k = record { ordered = h; inside = k }
-
 pub end_slice : (c : Cursor) → IsSliceOf (source c) (token End c.place c.place.at)
 unfolding source token
 end_slice c = record { ordered = omega arith; inside = c.within }
 
-pub slice_moved : (c d : Cursor) (t : Token) → IsSliceOf c.source.now t → d.source.now ≡ c.source.now → IsSliceOf (source d) t
-unfolding source
-slice_moved c d t h e = subst (λ z. IsSliceOf z t) (sym e) h
+-- a token before the end is followed by what is left
+pub goes_on_from : (kind : Kind) (p : Place) (n : ℕ) (ts : List Token) → is_end kind ≡ false → followed (token kind p n) ts ≡ token kind p n ∷ ts
+unfolding followed token
+goes_on_from kind p n ts h = ap (λ z. cond z (token kind p n ∷ []) (token kind p n ∷ ts)) h
+
+-- a token up to the place where a cursor stands
+pub slice_up_to : (c : Cursor) (kind : Kind) (p : Place) → p.at < c.place.at → IsSliceOf (source c) (token kind p c.place.at)
+unfolding source token
+slice_up_to c kind p h = record { ordered = omega arith; inside = c.within }

@@ -79,19 +79,17 @@ impl<'a> Cursor<'a> {
         }
     }
 
-    // Goes over the piece that begins here, and answers its token.
-    fn turn(&mut self) -> Option<Token>
+    // Goes over the piece that begins here, and answers the kind of its token.
+    fn turn(&mut self) -> Option<Kind>
         requires { self.old.place.at < length self.old.source.now }
         ensures source { self.new.source.now ≡ self.old.source.now }
         ensures further { self.old.place.at < self.new.place.at }
         ensures next { MatchOption result
             (spec.left self.old ≡ spec.left self.new)
-            (λ t. spec.left self.old ≡ t ∷ spec.left self.new) }
-        ensures no_end { IfSome result (λ t. spec.is_end t.kind ≡ false) }
-        ensures slice { IfSome result (spec.IsSliceOf self.old.source.now) }
+            (λ kind. spec.left self.old ≡ token kind self.old.place self.new.place.at ∷ spec.left self.new) }
+        ensures no_end { IfSome result (λ kind. spec.is_end kind ≡ false) }
     {
         let text = &self.source[self.place.at..];
-        let start = self.place;
         match piece_of(self.style, text[0], &text[1..], text) {
             Piece::Passed(n) => {
                 self.advance(n);
@@ -99,7 +97,7 @@ impl<'a> Cursor<'a> {
             }
             Piece::Shown(kind, n) => {
                 self.advance_token(kind, n);
-                Some(make_token(kind, start, start.at + n))
+                Some(kind)
             }
         }
     }
@@ -116,36 +114,21 @@ impl<'a> Cursor<'a> {
         self.place = self.place.forward(n);
     }
 
-    // The next token before the end.
-    #[tactic(auto, using(crate::proofs::Scan::left_read))]
-    fn scan(&mut self) -> Option<Token>
-        ensures source { self.new.source.now ≡ self.old.source.now }
-        ensures next { MatchOption result
-            (spec.left self.old ≡ token End self.new.place self.new.place.at ∷ [])
-            (λ t. spec.left self.old ≡ t ∷ spec.left self.new) }
-        ensures no_end { IfSome result (λ t. spec.is_end t.kind ≡ false) }
-        ensures slice { IfSome result (spec.IsSliceOf self.old.source.now) }
-    {
-        while self.place.at < self.source.len() {
-            if bytes::is_blank(self.source[self.place.at]) {
-                self.skip_blanks();
-            } else if let Some(token) = self.turn() {
-                return Some(token);
-            }
-        }
-        None
-    }
-
     /// The next token; after the last one the end, again and again.
-    #[tactic(auto, using(crate::proofs::Scan::same_source, crate::proofs::Scan::goes_on, crate::proofs::Scan::ends_here))]
+    #[tactic(auto, using(crate::proofs::Scan::left_read, crate::proofs::Scan::same_source, crate::proofs::Scan::ends_here))]
     pub fn next_token(&mut self) -> Token
         ensures source { spec.source self.new ≡ spec.source self.old }
         ensures next { spec.left self.old ≡ spec.followed result (spec.left self.new) }
         ensures slice { spec.IsSliceOf (spec.source self.new) result }
     {
-        match self.scan() {
-            Some(token) => token,
-            None => make_token(Kind::End, self.place, self.place.at),
+        while self.place.at < self.source.len() {
+            let start = self.place;
+            if bytes::is_blank(self.source[start.at]) {
+                self.skip_blanks();
+            } else if let Some(kind) = self.turn() {
+                return make_token(kind, start, self.place.at);
+            }
         }
+        make_token(Kind::End, self.place, self.place.at)
     }
 }

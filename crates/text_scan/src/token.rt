@@ -45,9 +45,10 @@ pub struct Token {
 }
 
 /// A place in a text: an index, and its line and column.
+// The index stands between the two: a processor is slow to load as one what was just written as two.
 #[derive(Clone, Copy, Debug, PartialEq, Eq)]
 pub struct Place {
-    pub at: usize,
     pub line: u32,
+    pub at: usize,
     pub column: u32,
 }

@@ -8,16 +8,13 @@ use text_scan::{Cursor, Kind, Style, Token};
 /// How many tokens stand before the end, and the end.
 fn count(text: &[u8]) -> (u64, Token) {
     let mut cursor = Cursor::new(text, Style::Liberty);
-    let mut tokens = 0_u64;
-    let mut token = cursor.next_token();
-    for _ in 0..u64::MAX {
-        if token.kind == Kind::End {
-            break;
+    for tokens in 0..u64::MAX {
+        let token = cursor.next_token();
+        if let Kind::End = token.kind {
+            return (tokens, token);
         }
-        tokens = tokens.saturating_add(1);
-        token = cursor.next_token();
     }
-    (tokens, token)
+    (u64::MAX, cursor.next_token())
 }
 
 fn main(rt: HostRuntime) -> Result<(), anyhow::Error> {

@@ -1,10 +1,16 @@
-use Rattle.std.proofs.Common.{sym, subst}
-use Rattle.text_scan.specs.Left.{IsSliceOf, source}
-use Rattle.text_scan.proofs.Scan.{slice_moved, end_slice}
+use Rattle.std.proofs.Common.{sym, ap, subst, ◌∙◌}
+use Rattle.text_scan.specs.Left.{IsSliceOf, followed, left, source}
+use Rattle.text_scan.proofs.Scan.{goes_on_from, slice_up_to, end_slice}
 use Rattle.text_scan.proofs.cursor.Cursor.next_token.Goals as goal
 
-pub returns-in-Some-clause-slice : goal.returns-in-Some-clause-slice
-returns-in-Some-clause-slice c = slice_moved c.args.self.now c.scan.new.self c.in-Some.token c.in-Some.ensures.slice c.scan.ensures.source
+pub returns-in-Some-clause-next : goal.returns-in-Some-clause-next
+returns-in-Some-clause-next c =
+    c.loop-self.invariant.so_far ∙ c.in-Some.ensures.next
+    ∙ sym (goes_on_from c.in-Some.kind c.loop-self.self.place c.turn.new.self.place.at (left c.turn.new.self) c.in-Some.ensures.no_end)
+    ∙ ap (λ z. followed z (left c.turn.new.self)) (sym c.make_token.ensures)
 
-pub returns-in-None-clause-slice : goal.returns-in-None-clause-slice
-returns-in-None-clause-slice c = subst (IsSliceOf (source c.scan.new.self)) (sym c.make_token.ensures) (end_slice c.scan.new.self)
+pub returns-in-Some-clause-slice : goal.returns-in-Some-clause-slice
+returns-in-Some-clause-slice c = subst (IsSliceOf (source c.turn.new.self)) (sym c.make_token.ensures) (slice_up_to c.turn.new.self c.in-Some.kind c.loop-self.self.place c.turn.ensures.further)
+
+pub returns-clause-slice : goal.returns-clause-slice
+returns-clause-slice c = subst (IsSliceOf (source c.loop-self.self)) (sym c.make_token-2.ensures) (end_slice c.loop-self.self)

@@ -1,8 +1,8 @@
-use Rattle.std.proofs.Common.{◌∷◌, ◌+◌, sym, ap, subst, ◌∙◌, arith}
-use Rattle.text_scan.specs.Left.{is_end, left, IsSliceOf}
+use Rattle.std.proofs.Common.{◌∷◌, sym, ap, ◌∙◌}
+use Rattle.text_scan.specs.Tokens.{token}
+use Rattle.text_scan.specs.Left.{left}
 use Rattle.text_scan.specs.declared.piece.Piece.TheVariants.{Shown}
-use Rattle.text_scan.proofs.Scan.{left_passed, left_shown, shown-no_end, token_kind, token_slice, word_place}
-use Rattle.text_scan.proofs.Places.{length_part}
+use Rattle.text_scan.proofs.Scan.{left_passed, left_shown, shown-no_end, word_place}
 use Rattle.text_scan.proofs.cursor.Cursor.turn.Goals as goal
 
 pub returns-in-Passed-clause-next : goal.returns-in-Passed-clause-next
@@ -13,19 +13,10 @@ pub returns-in-Shown-clause-next : goal.returns-in-Shown-clause-next
 returns-in-Shown-clause-next c =
     let moved = c.advance_token.ensures in
     left_shown c.args.self.now c.advance_token.new.self c.in-Shown.kind c.in-Shown.n c.requires c.in-Shown.ensures.value moved.source moved.style moved.place
-    ∙ ap (λ z. z ∷ left c.advance_token.new.self) (sym c.make_token.ensures)
+    ∙ ap (λ z. token c.in-Shown.kind c.args.self.now.place z ∷ left c.advance_token.new.self) (sym moved.at)
 
 pub returns-in-Shown-clause-no_end : goal.returns-in-Shown-clause-no_end
-returns-in-Shown-clause-no_end c =
-    let open_kind = shown-no_end c.args.self.now.style _ _ c.in-Shown.kind c.in-Shown.n c.in-Shown.ensures.value in
-    ap (λ z. is_end z.kind) c.make_token.ensures ∙ ap is_end (token_kind c.in-Shown.kind _ _ open_kind) ∙ open_kind
-
-pub returns-in-Shown-clause-slice : goal.returns-in-Shown-clause-slice
-returns-in-Shown-clause-slice c =
-    let s = c.args.self.now in
-    let room = length_part s.source.now s.place.at in
-    let within = c.in-Shown.ensures.within in
-    subst (IsSliceOf s.source.now) (sym c.make_token.ensures) (token_slice s.source.now c.in-Shown.kind s.place (s.place.at + c.in-Shown.n) (omega arith) (omega arith))
+returns-in-Shown-clause-no_end c = shown-no_end c.args.self.now.style _ _ c.in-Shown.kind c.in-Shown.n c.in-Shown.ensures.value
 
 pub advance_token-requires-clause-word : goal.advance_token-requires-clause-word
 advance_token-requires-clause-word c = λ is. word_place c.args.self.now c.in-Shown.n c.requires (ap (λ z. Shown z c.in-Shown.n) (sym is) ∙ c.in-Shown.ensures.value)

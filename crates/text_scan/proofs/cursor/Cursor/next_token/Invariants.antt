@@ -1,6 +1,6 @@
 use Rattle.std.proofs.Common.{◌≡◌, ◌-◌, length}
 use Rattle.text_scan.specs.Left.{left}
-use Rattle.text_scan.proofs.cursor.Cursor.scan.Given as goal
+use Rattle.text_scan.proofs.cursor.Cursor.next_token.Given as goal
 
 abbrev pub invariant-loop-self : goal.invariant-loop-self
 invariant-loop-self l = record {
