@@ -21,14 +21,10 @@ pub(crate) fn is_space(byte: u8) -> bool
 fn is_liberty_sign(byte: u8) -> bool
     ensures { result ≡ spec.is_liberty_sign byte }
 {
-    byte == b'('
-        || byte == b')'
-        || byte == b'{'
-        || byte == b'}'
-        || byte == b';'
-        || byte == b':'
-        || byte == b','
-        || byte == b'"'
+    matches!(
+        byte,
+        b'(' | b')' | b'{' | b'}' | b';' | b':' | b',' | b'"'
+    )
 }
 
 #[tactic(auto, unfolding(crate::specs::Bytes::is_liberty_byte))]

@@ -1,4 +1,4 @@
-//! Counts the tokens of a Liberty file: `token_count FILE`.
+//! Counts the tokens of a Liberty file, and so many times: `token_count FILE [TIMES]`.
 #![tactic(auto)]
 
 use std::env;
@@ -18,12 +18,16 @@ fn count(text: &[u8]) -> (u64, Token) {
 }
 
 fn main(rt: HostRuntime) -> Result<(), anyhow::Error> {
-    let Some(path) = env::args(&rt)?.nth(1) else {
-        println!(rt; "usage: token_count FILE")?;
+    let mut words = env::args(&rt)?.skip(1);
+    let Some(path) = words.next() else {
+        println!(rt; "usage: token_count FILE [TIMES]")?;
         return Ok(());
     };
+    let times = words.next().and_then(|word| word.as_str().parse::<u32>().ok()).unwrap_or(1);
     let text = fs::read(&rt, path.as_str())?;
-    let (tokens, end) = count(&text);
-    println!(rt; "{tokens} tokens, the end at line {} column {}", end.span.line, end.span.column)?;
+    for _ in 0..times {
+        let (tokens, end) = count(&text);
+        println!(rt; "{tokens} tokens, the end at line {} column {}", end.span.line, end.span.column)?;
+    }
     Ok(())
 }
