@@ -4,7 +4,9 @@ use Rattle.std.proofs.lemmas.List.{append-nil, append_cancel_right}
 use Rattle.grammar.specs.Rule.{Rule, Front, IsFront, Whole}
 use Rattle.grammar.specs.Reading.{Stop, syntax, refusal, read, IsSimple}
 use Rattle.grammar.specs.Answers.{NoFurther, StopsAt, RefusesAt, IsAnswer, to_end, read_all}
-use Rattle.grammar.proofs.Fronts.{FrontThen, Like}
+use Rattle.grammar.proofs.Fronts.{FrontThen}
+use Rattle.grammar.proofs.Prefix.{Nothing}
+use Rattle.grammar.proofs.Passes.{like_nothing}
 use Rattle.grammar.proofs.Cuts.{cuts}
 use Rattle.grammar.proofs.Tells.{Tells, tells}
 use Rattle.grammar.proofs.Stops.{front_then}
@@ -12,14 +14,8 @@ use Rattle.grammar.proofs.Complete.{only}
 use Rattle.grammar.proofs.Refuses.{comes, last_on-append}
 
 -- nothing follows the whole list
-abbrev Nothing : {T : Type 0} → List T → Type 0
-Nothing xs = xs ≡ []
-
 abbrev nothing_follows : {T : Type 0} → T → Bool
 nothing_follows t = false
-
-like_nothing : {T : Type 0} → Like {T = T} nothing_follows Nothing
-like_nothing = record { nil = refl; head = λ u us g. absurd cc }
 
 front_ends : {T S E : Type 0} (a : Rule T S E) (us : List T) (t : T) → (FrontThen a Nothing (us ++ t ∷ []) → (t ∷ []) ≡ []) → IsFront a (us ++ t ∷ []) → ⊥
 front_ends a us t h f = absurd (let bad = h (front_then a Nothing (us ++ t ∷ []) f refl) in cc)
@@ -29,7 +25,7 @@ stops_here {T} {S} {E} a s ts rest open_end ta = record { us = ta.us; state = ta
   where
     none : (rest : List T) → (ta : Tells a nothing_follows s ts (Err (syntax rest))) → NoFurther a s ta.us rest
     none [] ta = λ m w. open_end m (subst (λ z. Whole a s z m) (sym (ta.parts ∙ append-nil ta.us)) w)
-    none (t ∷ more) ta = front_ends a ta.us t (λ f. ta.only Nothing like_nothing (t ∷ []) refl f)
+    none (t ∷ more) ta = front_ends a ta.us t (λ f. ta.only Nothing (like_nothing nothing_follows) (t ∷ []) refl f)
 
 -- a whole text, and a token more
 leftover : {T S E : Type 0} (a : Rule T S E) (s m : S) (ts : List T) (t : T) (more : List T) → Tells a nothing_follows s ts (Ok (m, t ∷ more)) → StopsAt a s ts (t ∷ more)
@@ -41,7 +37,7 @@ leftover a s m ts t more ta =
       state = c.state;
       parts = ta.parts;
       front = subst (λ z. Front a s z (Ok c.state)) same c.front;
-      no_further = front_ends a ta.us t (λ f. ta.only Nothing like_nothing (t ∷ []) refl f);
+      no_further = front_ends a ta.us t (λ f. ta.only Nothing (like_nothing nothing_follows) (t ∷ []) refl f);
     }
 
 refuses_here : {T S E : Type 0} (a : Rule T S E) (s : S) (ts rest : List T) (e : E) → Tells a nothing_follows s ts (Err (refusal e rest)) → RefusesAt a s ts e rest

@@ -6,3 +6,6 @@ pub mod Complete
 pub mod Refuses
 pub mod Answer
 pub mod Sums
+pub mod Prefix
+pub mod Passes
+pub mod Unique

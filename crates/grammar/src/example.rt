@@ -1,10 +1,9 @@
 //! A small reader, which shows how a reader's answer is stated and proved: a text of digits whose sum is nine at
 //! most, and then a point.
-ghost use Rattle.std.specs.Prelude.{◌≡◌, ◌<◌, ℕ, List, Ok, Err, length, drop, slice_index, false};
-ghost use Rattle.grammar.specs.Rule.{Whole};
-ghost use Rattle.grammar.specs.Reading.{refusal};
-ghost use Rattle.grammar.specs.Answers.{IsAnswer, RefusesAt, read_all};
-ghost use Rattle.grammar.specs.Example.{sums, told, too_large, is_digit};
+ghost use Rattle.std.specs.Prelude.{◌≡◌, ◌<◌, ℕ, Result, length, drop, slice_index, false};
+ghost use Rattle.grammar.specs.Reading.{Stop};
+ghost use Rattle.grammar.specs.Answers.{IsAnswer, read_all};
+ghost use Rattle.grammar.specs.Example.{sums, told, Excess, is_digit};
 
 /// Why a text is no sum, with the index of the byte: the text's length where it ends too early.
 #[derive(Clone, Copy, Debug, PartialEq, Eq)]
@@ -58,9 +57,7 @@ fn read_sum(text: &[u8]) -> Result<u8, SumRefusal>
 /// The sum of the digits before the point.
 pub fn sum_of(text: &[u8]) -> Result<u8, SumRefusal>
     ensures answer { IsAnswer sums 0 text.now (told text.now result) }
-    ensures sum_is_told { (sum : ℕ) → Whole sums 0 text.now sum → result ≡ Ok sum }
-    ensures excess_is_told { (rest : List ℕ) → RefusesAt sums 0 text.now too_large rest
-        → told text.now result ≡ Err (refusal too_large rest) }
+    ensures only_answer { (o : Result ℕ (Stop ℕ Excess)) → IsAnswer sums 0 text.now o → told text.now result ≡ o }
 {
     read_sum(text)
 }
