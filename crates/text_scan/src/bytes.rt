@@ -21,10 +21,7 @@ pub(crate) fn is_space(byte: u8) -> bool
 fn is_liberty_sign(byte: u8) -> bool
     ensures { result ≡ spec.is_liberty_sign byte }
 {
-    matches!(
-        byte,
-        b'(' | b')' | b'{' | b'}' | b';' | b':' | b',' | b'"'
-    )
+    matches!(byte, b'(' | b')' | b'{' | b'}' | b';' | b':' | b',' | b'"')
 }
 
 #[tactic(auto, unfolding(crate::specs::Bytes::is_liberty_byte))]
