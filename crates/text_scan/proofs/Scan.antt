@@ -18,7 +18,7 @@ use Rattle.text_scan.specs.Pieces.{ends_run}
 use Rattle.text_scan.specs.Jumps.{forward}
 use Rattle.text_scan.proofs.Until.{until-le}
 use Rattle.text_scan.proofs.Flat.{after_word, blanks_pass, flat-run}
-use Rattle.text_scan.proofs.Size.{piece-fits, ends}
+use Rattle.text_scan.proofs.Size.{piece-fits, ends as ends_text}
 
 -- what is left of a piece is gone over
 pub inside : (style : Style) (p : Place) (n : ℕ) (xs : List ℕ) → tokens style p n xs ≡ tokens style (after p (take n xs)) 0 (drop n xs)
@@ -66,7 +66,7 @@ shown style text p b bs kind n e is = turn style text p b bs e ∙ ap (λ z. bef
 
 -- no piece is the end
 pub shown-no_end : (style : Style) (b : ℕ) (bs : List ℕ) (kind : Kind) (n : ℕ) → Shown kind n ≡ piece style b bs → is_end kind ≡ false
-shown-no_end style b bs kind n is = ap ends is ∙ (piece-fits style b bs).no_end
+shown-no_end style b bs kind n is = ap ends_text is ∙ (piece-fits style b bs).no_end
 
 pub all_read : (style : Style) (text : List ℕ) (p : Place) → length text ≤ p.at → tokens_at style text p ≡ token End p p.at ∷ []
 unfolding tokens_at tokens
@@ -176,3 +176,17 @@ goes_on_from kind p n ts h = ap (λ z. cond z (token kind p n ∷ []) (token kin
 pub slice_up_to : (c : Cursor) (kind : Kind) (p : Place) → p.at < c.place.at → IsSliceOf (source c) (token kind p c.place.at)
 unfolding source token
 slice_up_to c kind p h = record { ordered = omega arith; inside = c.within }
+
+-- what a token before the end tells a reader of the tokens that are left
+pub goes_on : (t : Token) (ts : List Token) → is_end t.kind ≡ false → followed t ts ≡ t ∷ ts
+unfolding followed
+goes_on t ts h = ap (λ z. cond z (t ∷ []) (t ∷ ts)) h
+
+-- and the end
+pub ends : (t : Token) (ts : List Token) → is_end t.kind ≡ true → followed t ts ≡ t ∷ []
+unfolding followed
+ends t ts h = ap (λ z. cond z (t ∷ []) (t ∷ ts)) h
+
+pub token_kind : (kind : Kind) (p : Place) (n : ℕ) → (token kind p n).kind ≡ kind
+unfolding token
+token_kind kind p n = refl

@@ -9,9 +9,12 @@ use Rattle.text_scan.specs.declared.piece.Piece.{Piece}
 use Rattle.text_scan.specs.declared.piece.Piece.TheVariants.{Passed, Shown}
 use Rattle.text_scan.specs.Pieces.{piece}
 
--- the place before the first byte
+-- the place before the first byte of a text, at this line and column
+abbrev pub start_at : ℕ → ℕ → Place
+start_at line column = record { at = 0; line = line; column = column }
+
 abbrev pub start : Place
-start = record { at = 0; line = 1; column = 1 }
+start = start_at 1 1
 
 -- the place after the byte b that stands at p: an LF ends the line, and a number that grows too large stays
 unfoldable pub over : ℕ → Place → Place

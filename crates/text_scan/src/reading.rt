@@ -2,7 +2,7 @@
 ghost use Rattle.std.specs.Prelude.{◌≡◌, ◌≤◌, ◌<◌, ◌+◌, ◌∷◌, [], length, take, drop, false, MatchOption, IfSome, slice_range, slice_index, true};
 ghost use Rattle.text_scan.specs.Bytes.{is_blank};
 ghost use Rattle.text_scan.specs.declared.token.Kind.TheVariants.{End, Word};
-ghost use Rattle.text_scan.specs.Tokens.{token, after, tokens_of};
+ghost use Rattle.text_scan.specs.Tokens.{token, tokens, after, start_at, tokens_of};
 ghost use Rattle.text_scan.specs.Jumps.{forward};
 ghost use Rattle.text_scan.specs.Left as spec;
 
@@ -48,6 +48,23 @@ impl<'a> Cursor<'a> {
             source: text,
             style,
             place: Place::start(),
+        }
+    }
+
+    /// Stands before the first token of a text that goes on from another, at this line and column.
+    #[tactic(auto, unfolding(crate::specs::Left::left, crate::specs::Left::tokens_at, crate::specs::Left::source))]
+    pub fn going_on(text: &'a [u8], style: Style, line: u32, column: u32) -> Cursor<'a>
+        ensures source { spec.source result ≡ text.now }
+        ensures left { spec.left result ≡ tokens style (start_at line column) 0 text.now }
+    {
+        Cursor {
+            source: text,
+            style,
+            place: Place {
+                at: 0,
+                line,
+                column,
+            },
         }
     }
 
@@ -119,6 +136,7 @@ impl<'a> Cursor<'a> {
     pub fn next_token(&mut self) -> Token
         ensures source { spec.source self.new ≡ spec.source self.old }
         ensures next { spec.left self.old ≡ spec.followed result (spec.left self.new) }
+        ensures end_stays { spec.is_end result.kind ≡ true → spec.left self.new ≡ spec.left self.old }
         ensures slice { spec.IsSliceOf (spec.source self.new) result }
     {
         while self.place.at < self.source.len() {

@@ -237,6 +237,9 @@ fn a_token_is_a_slice_of_its_text(rt: HostRuntime) {
     let mut cursor = Cursor::new(text, Style::Liberty);
     assert_eq!(rt; cursor.next_token().text(text), b"cell".as_slice());
     assert_eq!(rt; cursor.next_token().text(text), b"(".as_slice());
+    let mut cursor = Cursor::going_on(b"\nx", Style::Words, u32::MAX, 7);
+    assert_eq!(rt; cursor.next_token().span.column, 7);
+    assert_eq!(rt; cursor.next_token().span.line, u32::MAX);
 }
 
 #[test]

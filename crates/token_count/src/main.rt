@@ -1,8 +1,7 @@
 //! Counts the tokens of a Liberty file, and so many times: `token_count FILE [TIMES]`.
 #![tactic(auto)]
 
-use std::env;
-use std::fs;
+use std::{env, fs};
 use text_scan::{Cursor, Kind, Style, Token};
 
 /// How many tokens stand before the end, and the end.
@@ -23,11 +22,17 @@ fn main(rt: HostRuntime) -> Result<(), anyhow::Error> {
         println!(rt; "usage: token_count FILE [TIMES]")?;
         return Ok(());
     };
-    let times = words.next().and_then(|word| word.as_str().parse::<u32>().ok()).unwrap_or(1);
+    let times = words
+        .next()
+        .and_then(|word| word.as_str().parse::<u32>().ok())
+        .unwrap_or(1);
     let text = fs::read(&rt, path.as_str())?;
     for _ in 0..times {
         let (tokens, end) = count(&text);
-        println!(rt; "{tokens} tokens, the end at line {} column {}", end.span.line, end.span.column)?;
+        println!(rt;
+            "{tokens} tokens, the end at line {} column {}",
+            end.span.line, end.span.column
+        )?;
     }
     Ok(())
 }
