@@ -1,5 +1,5 @@
 //! The limits of input files.
-ghost use Rattle.std.specs.Prelude.{◌≡◌};
+ghost use Rattle.std.specs.Prelude.{◌≡◌, Some};
 ghost use Rattle.text_scan.specs.Limits.{standard, word_of};
 
 use std::fmt;
@@ -71,6 +71,8 @@ impl LimitKind {
 }
 
 impl fmt::Display for LimitKind {
+    ghost output = { λ kind. Some (word_of kind) };
+
     fn fmt<W: fmt::Write>(&self, f: &mut fmt::Formatter<W>) -> fmt::Result {
         f.write_str(self.word())
     }
