@@ -8,3 +8,4 @@ pub mod Verilog
 pub mod VerilogReading
 pub mod Meaning
 pub mod Compare
+pub mod Outcome

@@ -4,5 +4,6 @@
 mod compare;
 mod cursor;
 mod liberty;
+mod reply;
 mod stop;
 mod verilog;

