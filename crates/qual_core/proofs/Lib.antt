@@ -3,3 +3,4 @@ pub mod Fronts
 pub mod Grammar
 pub mod LibertyGrammar
 pub mod VerilogGrammar
+pub mod Words

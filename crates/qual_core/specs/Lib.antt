@@ -9,3 +9,4 @@ pub mod VerilogReading
 pub mod Meaning
 pub mod Compare
 pub mod Outcome
+pub mod Command

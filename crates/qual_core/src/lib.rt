@@ -1,6 +1,7 @@
 //! The top call.
 #![tactic(auto)]
 
+mod command;
 mod compare;
 mod cursor;
 mod liberty;
