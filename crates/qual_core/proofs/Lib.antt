@@ -4,3 +4,4 @@ pub mod Grammar
 pub mod LibertyGrammar
 pub mod VerilogGrammar
 pub mod Words
+pub mod Replies

@@ -1,5 +1,5 @@
 -- Which lists of words are which command.
-use Rattle.std.specs.Prelude.{ℕ, ◌+◌, List, [], ◌∷◌, ◌++◌, Option, Some, None, Bool, true, false, ◌&&◌, not, if◌then◌else◌, bytes_eq, codes, length, nat_le, map, String, string_bytes}
+use Rattle.std.specs.Prelude.{ℕ, ◌+◌, List, [], ◌∷◌, ◌++◌, Option, Some, None, Bool, true, false, ◌&&◌, not, if◌then◌else◌, bytes_eq, codes, length, nat_le, get_or, map, String, string_bytes}
 use Rattle.std.specs.List.{list_all}
 use Rattle.std.specs.declared.alloc.Global.{Global}
 use Rattle.qual_core.specs.Names.{is_among, is_distinct}
@@ -97,3 +97,24 @@ named_command (Some name) rest words =
 abbrev pub command_of : List (List ℕ) → Option Command
 command_of [] = None
 command_of (word ∷ rest) = named_command (name_of word) rest (word ∷ rest)
+
+-- the word at a place, counted from 0
+abbrev pub word_at : List (List ℕ) → ℕ → List ℕ
+word_at words place = get_or words place []
+
+-- the names of the files of the command
+abbrev pub names_of : Option Command → List (List ℕ) → List (List ℕ)
+names_of None words = []
+names_of (Some c) words = map (λ f. word_at words f.1) c.files
+
+-- the names of files among the words, in reading order
+abbrev pub names : List (List ℕ) → List (List ℕ)
+names words = names_of (command_of words) words
+
+abbrev pub word_at_place : List (List ℕ) → Option ℕ → List ℕ
+word_at_place words None = []
+word_at_place words (Some place) = word_at words place
+
+-- the name beside an option
+abbrev pub name_beside : List (List ℕ) → FileOption → List ℕ
+name_beside words file = word_at_place words (place_of words (option_word file))

@@ -10,3 +10,4 @@ pub mod Meaning
 pub mod Compare
 pub mod Outcome
 pub mod Command
+pub mod Top

@@ -4,7 +4,9 @@
 mod command;
 mod compare;
 mod cursor;
+mod files;
 mod liberty;
 mod reply;
 mod stop;
+mod top;
 mod verilog;
