@@ -5,3 +5,4 @@ pub mod LibertyGrammar
 pub mod VerilogGrammar
 pub mod Words
 pub mod Replies
+pub mod Places

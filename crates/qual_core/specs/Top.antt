@@ -8,6 +8,7 @@ use Rattle.qual_core.specs.Command.{names, command_of, name_beside}
 use Rattle.qual_core.specs.Meaning.{IsEqualEverywhere}
 use Rattle.qual_core.specs.Compare.{Says}
 use Rattle.qual_core.specs.Outcome.{MAX_FILE, IsLiberty, IsVerilog, IsOutcome}
+use Rattle.qual_core.specs.declared.command.Command.{Command}
 use Rattle.qual_core.specs.declared.command.FileOption.TheVariants.{Liberty, Verilog}
 use Rattle.qual_core.specs.declared.liberty.Cell.{Cell}
 use Rattle.qual_core.specs.declared.verilog.Module.{Module}
@@ -53,7 +54,7 @@ IsVerdict Faulty = Unit {0}
 IsVerdict FileRefused = Unit {0}
 IsVerdict status = ⊥
 
-abbrev pub IsUsageOr : Option Status → Status → Type 0
+abbrev pub IsUsageOr : Option Command → Status → Type 0
 IsUsageOr None status = status ≡ Usage
 IsUsageOr (Some _) status = IsVerdict status
 

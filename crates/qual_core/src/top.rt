@@ -1,12 +1,13 @@
 // The top call.
-ghost use Rattle.std.specs.Prelude.{◌≡◌, ◌≢◌, ◌≤◌, ◌++◌, ◌∷◌, [], List, ℕ, Option, Some, None, IsTrue, IfOk, IfSome, IsErrOf, codes, length};
+ghost use Rattle.std.specs.Prelude.{◌≡◌, ◌≢◌, ◌≤◌, ◌<◌, ◌++◌, ◌∷◌, [], List, ℕ, Option, Some, None, IsTrue, IfOk, IfSome, IsErrOf, codes, get_or, length};
 ghost use Rattle.desk_ports.specs.Faults.{Rose, NoneFails};
-ghost use Rattle.qual_core.specs.Command.{texts, command_of, names, name_beside};
+ghost use Rattle.qual_core.specs.Command.{texts, command_of, names, word_at};
 ghost use Rattle.qual_core.specs.Outcome.{usage, IsCompareReply, IsReplyOf, IsOutcome};
 ghost use Rattle.qual_core.specs.Top.{Blames, AsksFor, AreThere, IsVerdict, IsUsageOr};
 ghost use Rattle.qual_core.specs.Liberty.{IsLibertyOf};
 ghost use Rattle.qual_core.specs.Verilog.{IsVerilogOf};
 ghost use Rattle.qual_core.specs.Outcome.{IsJudged};
+ghost use Rattle.qual_core.specs.declared.command.CommandName.TheVariants.{Compare};
 ghost use Rattle.qual_core.specs.declared.files.Failure.TheVariants.{NoMemory};
 
 use crate::command::{Command, CommandName, command_of};
@@ -75,4 +76,68 @@ fn compare_files<S: Shelf>(
         return reply_with(alloc, Status::FileRefused, "refused verilog not read yet\n");
     };
     judged(alloc, &cell, &circuit)
+}
+
+// The place among the words of the name of the file with this index in reading order.
+fn file_place(words: &[String], command: &Command, index: usize) -> usize
+    requires command { command_of (texts words.now) ≡ Some command.now }
+    requires index { index < length command.now.files }
+    ensures within { result < length words.now }
+    ensures name { word_at (texts words.now) result ≡ get_or (names (texts words.now)) index [] }
+{
+    command.files.as_slice()[index].1
+}
+
+#[tactic(auto, using(crate::proofs::Places::text_at))]
+// The name of the file with this index in reading order.
+fn file_name<'a>(words: &'a [String], command: &Command, index: usize) -> &'a str
+    requires command { command_of (texts words.now) ≡ Some command.now }
+    requires index { index < length command.now.files }
+    ensures { result.now ≡ get_or (names (texts words.now)) index [] }
+{
+    words[file_place(words, command, index)].as_str()
+}
+
+// Compares the two files that the words name.
+fn compare_named<S: Shelf>(
+    alloc: Global,
+    shelf: &mut S,
+    words: &[String],
+    command: &Command,
+) -> Result<Reply, Failure>
+    requires { command_of (texts words.now) ≡ Some command.now }
+    ensures reply { IsTrue S.tells
+        → IfOk result (λ reply. IsReplyOf Compare (texts words.now) (S.file shelf.old) reply) }
+    ensures verdict { IfOk result (λ reply. IsVerdict reply.status) }
+    ensures cause { Blames (IsErrOf result Failure.ReadFault) (S.faults shelf.old) (S.faults shelf.new) }
+    ensures succeeds { IsTrue S.tells → NoneFails (S.fails shelf.old)
+        → AreThere (S.file shelf.old) (names (texts words.now)) → IsErrOf result Failure.ReadFault → ⊥ }
+    ensures asked { IsTrue S.tells → AsksFor (names (texts words.now)) (S.file shelf.old)
+        (S.expects shelf.old) (S.asked shelf.old) (S.asked shelf.new) }
+    ensures files { S.file shelf.new ≡ S.file shelf.old }
+{
+    let liberty = file_name(words, command, 0);
+    let verilog = file_name(words, command, 1);
+    compare_files(alloc, shelf, liberty, verilog)
+}
+
+// What is to be answered and written for the words.
+fn reply_to<S: Shelf>(alloc: Global, words: &[String], shelf: &mut S) -> Result<Reply, Failure>
+    ensures reply { IsTrue S.tells
+        → IfOk result (λ reply. IsOutcome (texts words.now) (S.file shelf.old) reply) }
+    ensures status { IfOk result (λ reply. IsUsageOr (command_of (texts words.now)) reply.status) }
+    ensures cause { Blames (IsErrOf result Failure.ReadFault) (S.faults shelf.old) (S.faults shelf.new) }
+    ensures no_command { command_of (texts words.now) ≡ None → IsErrOf result Failure.ReadFault → ⊥ }
+    ensures succeeds { IsTrue S.tells → NoneFails (S.fails shelf.old)
+        → AreThere (S.file shelf.old) (names (texts words.now)) → IsErrOf result Failure.ReadFault → ⊥ }
+    ensures asked { IsTrue S.tells → AsksFor (names (texts words.now)) (S.file shelf.old)
+        (S.expects shelf.old) (S.asked shelf.old) (S.asked shelf.new) }
+    ensures files { S.file shelf.new ≡ S.file shelf.old }
+{
+    let Some(command) = command_of(alloc, words)? else {
+        return reply_with(alloc, Status::Usage, USAGE);
+    };
+    match command.name {
+        CommandName::Compare => compare_named(alloc, shelf, words, &command),
+    }
 }
