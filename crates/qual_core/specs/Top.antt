@@ -74,3 +74,65 @@ pub record AsksFor (named : List (List ℕ)) (file : List ℕ → Option (List �
   pub missing : AreThere file named → new.missing ≡ old.missing
   pub unexpected : AreExpected expects named → new.unexpected ≡ old.unexpected
   pub most : new.most ≤ max old.most (MAX_FILE + 1)
+
+-- what is answered where no fault and no want of memory stops the run
+abbrev pub IsAnswer : Status → Type 0
+IsAnswer ReadFault = ⊥
+IsAnswer WriteFault = ⊥
+IsAnswer NoMemory = ⊥
+IsAnswer status = Unit {0}
+
+-- neither the shelf's count of faults rose nor the sink's
+pub record NoCountRose (shelf_before shelf_now sink_before sink_now : ℕ) : Type 0 where
+  pub shelf : Rose shelf_before shelf_now → ⊥
+  pub sink : Rose sink_before sink_now → ⊥
+
+-- this status, unless memory was refused
+abbrev pub IsOrNoMemory : Status → Status → Type 0
+IsOrNoMemory status wanted = (status ≡ wanted) ⊎ (status ≡ NoMemory)
+
+-- Usage comes only where the words are no command, and exactly there where no count rose.
+pub record UsageExactly (status : Status) (command : Option Command) (no_fault : Type 0) : Type 0 where
+  pub only : status ≡ Usage → command ≡ None
+  pub comes : command ≡ None → no_fault → IsOrNoMemory status Usage
+
+-- An answer comes only where it is the outcome's, and exactly there where no count rose.
+pub record AnswersExactly (status : Status) (outcome : Reply → Type 0) (no_fault : Type 0) : Type 0 where
+  pub only : IsAnswer status → (reply : Reply) × outcome reply × (reply.status ≡ status)
+  pub comes : (reply : Reply) → outcome reply → no_fault → IsOrNoMemory status reply.status
+
+-- What is written by each status: the outcome's text whole, a part of it after a fault of the sink, and else nothing.
+abbrev pub Writes : Status → (Reply → Type 0) → List ℕ → List ℕ → Type 0
+Writes ReadFault outcome old new = new ≡ old
+Writes NoMemory outcome old new = new ≡ old
+Writes WriteFault outcome old new = (reply : Reply) × outcome reply × AppendsPart old new reply.text
+Writes status outcome old new = (reply : Reply) × outcome reply × (reply.status ≡ status) × (new ≡ old ++ reply.text)
+
+-- the words are a command, and the files that they name are a Liberty file of the cell and a Verilog file of the module for it
+pub record AreAccepted (words : List (List ℕ)) (file : List ℕ → Option (List ℕ)) : Type 0 where
+  pub command : IsSome (command_of words)
+  pub liberty : List ℕ
+  pub verilog : List ℕ
+  pub cell : Cell
+  pub circuit : Module
+  pub liberty_there : file (name_beside words Liberty) ≡ Some liberty
+  pub verilog_there : file (name_beside words Verilog) ≡ Some verilog
+  pub is_liberty : IsLiberty liberty cell
+  pub is_verilog : IsVerilog cell verilog circuit
+
+-- and at every input vector the output has the value that Liberty gives it
+abbrev pub AreEqual : List (List ℕ) → (List ℕ → Option (List ℕ)) → Type 0
+AreEqual words file = (a : AreAccepted words file) × IsEqualEverywhere a.cell a.circuit
+
+abbrev pub IsDoneOrFaulty : Status → Type 0
+IsDoneOrFaulty Done = Unit {0}
+IsDoneOrFaulty Faulty = Unit {0}
+IsDoneOrFaulty status = ⊥
+
+-- the whole text was written, and the status is Done or Faulty as it says
+abbrev pub IsWhole : Status → (Reply → Type 0) → List ℕ → List ℕ → Type 0
+IsWhole status outcome old new = IsDoneOrFaulty status × ((reply : Reply) × outcome reply × (reply.status ≡ status) × (new ≡ old ++ reply.text))
+
+-- there is room for the text of the outcome
+abbrev pub HasRoom : (Reply → Type 0) → ℕ → Type 0
+HasRoom outcome room = (reply : Reply) → outcome reply → length reply.text ≤ room

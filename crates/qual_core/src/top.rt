@@ -1,9 +1,10 @@
 // The top call.
-ghost use Rattle.std.specs.Prelude.{◌≡◌, ◌≢◌, ◌≤◌, ◌<◌, ◌++◌, ◌∷◌, [], List, ℕ, Option, Some, None, IsTrue, IfOk, IfSome, IsErrOf, codes, get_or, length};
+ghost use Rattle.std.specs.Prelude.{◌≡◌, ◌≢◌, ◌≤◌, ◌<◌, ◌++◌, ◌∷◌, ◌⊎◌, [], List, ℕ, Option, Some, None, IsTrue, IfOk, IfSome, IsErrOf, codes, get_or, length};
 ghost use Rattle.desk_ports.specs.Faults.{Rose, NoneFails};
 ghost use Rattle.qual_core.specs.Command.{texts, command_of, names, word_at};
 ghost use Rattle.qual_core.specs.Outcome.{usage, IsCompareReply, IsReplyOf, IsOutcome};
-ghost use Rattle.qual_core.specs.Top.{Blames, AsksFor, AreThere, IsVerdict, IsUsageOr};
+ghost use Rattle.qual_core.specs.Top.{Blames, AsksFor, AreThere, IsVerdict, IsUsageOr, NoCountRose, UsageExactly, AnswersExactly, Writes, AreAccepted, AreEqual, IsWhole, HasRoom};
+ghost use Rattle.qual_core.specs.Compare.{Says};
 ghost use Rattle.qual_core.specs.Liberty.{IsLibertyOf};
 ghost use Rattle.qual_core.specs.Verilog.{IsVerilogOf};
 ghost use Rattle.qual_core.specs.Outcome.{IsJudged};
@@ -139,5 +140,63 @@ fn reply_to<S: Shelf>(alloc: Global, words: &[String], shelf: &mut S) -> Result<
     };
     match command.name {
         CommandName::Compare => compare_named(alloc, shelf, words, &command),
+    }
+}
+
+/// Does what the words say: it reads the files that they name, and writes one text.
+///
+/// It writes the usage line where the words are no command, and the line of a refused file where
+/// one isn't read in its form. It starts each file once at most, in reading order, and reads no
+/// more than 1,048,577 bytes of it.
+pub fn qual<S: Shelf, K: Sink>(
+    alloc: Global,
+    words: &[String],
+    shelf: &mut S,
+    out: &mut K,
+) -> Status
+    // Where the text written says that the cell is equal, it is.
+    ensures equal { IsTrue S.tells → IsTrue K.tells → (text : List ℕ)
+        → K.written out.new ≡ K.written out.old ++ text → Says text (codes "verdict equal")
+        → AreEqual (texts words.now) (S.file shelf.old) }
+
+    // The bytes written are those of the outcome.
+    ensures text { IsTrue S.tells → IsTrue K.tells → Writes result
+        (IsOutcome (texts words.now) (S.file shelf.old)) (K.written out.old) (K.written out.new) }
+    ensures usage_line { IsTrue K.tells → result ≡ Status.Usage
+        → K.written out.new ≡ K.written out.old ++ usage.text }
+
+    // Each status has its cause. Those of a fault come where the count of the device rose.
+    ensures read_fault { Blames (result ≡ Status.ReadFault) (S.faults shelf.old) (S.faults shelf.new) }
+    ensures write_fault { Blames (result ≡ Status.WriteFault) (K.faults out.old) (K.faults out.new) }
+    ensures usage { UsageExactly result (command_of (texts words.now)) (NoCountRose
+        (S.faults shelf.old) (S.faults shelf.new) (K.faults out.old) (K.faults out.new)) }
+    ensures answer { IsTrue S.tells → AnswersExactly result (IsOutcome (texts words.now) (S.file shelf.old))
+        (NoCountRose (S.faults shelf.old) (S.faults shelf.new) (K.faults out.old) (K.faults out.new)) }
+
+    // Two files that are accepted are compared, and the whole text is written.
+    ensures complete { IsTrue S.tells → IsTrue K.tells → AreAccepted (texts words.now) (S.file shelf.old)
+        → NoCountRose (S.faults shelf.old) (S.faults shelf.new) (K.faults out.old) (K.faults out.new)
+        → (result ≡ Status.NoMemory) ⊎ IsWhole result (IsOutcome (texts words.now) (S.file shelf.old))
+        (K.written out.old) (K.written out.new) }
+
+    // No device fails by itself where none is told to.
+    ensures no_read_fault { IsTrue S.tells → NoneFails (S.fails shelf.old)
+        → AreThere (S.file shelf.old) (names (texts words.now)) → result ≢ Status.ReadFault }
+    ensures no_write_fault { IsTrue S.tells → IsTrue K.tells → NoneFails (K.fails out.old)
+        → HasRoom (IsOutcome (texts words.now) (S.file shelf.old)) (K.room out.old)
+        → result ≢ Status.WriteFault }
+
+    // What is asked of the shelf, and what stays.
+    ensures asked { IsTrue S.tells → AsksFor (names (texts words.now)) (S.file shelf.old)
+        (S.expects shelf.old) (S.asked shelf.old) (S.asked shelf.new) }
+    ensures files { S.file shelf.new ≡ S.file shelf.old }
+{
+    match reply_to(alloc, words, shelf) {
+        Err(Failure::ReadFault) => Status::ReadFault,
+        Err(Failure::NoMemory) => Status::NoMemory,
+        Ok(reply) => match out.put(reply.text.as_bytes()) {
+            Ok(()) => reply.status,
+            Err(_) => Status::WriteFault,
+        },
     }
 }
