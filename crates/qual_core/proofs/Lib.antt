@@ -3,6 +3,10 @@ pub mod Fronts
 pub mod Grammar
 pub mod LibertyGrammar
 pub mod VerilogGrammar
+pub mod Files
+pub mod Settling
+pub mod Tallies
+pub mod Lines
 pub mod Words
 pub mod Replies
 pub mod Places

@@ -9,5 +9,6 @@ pub mod VerilogReading
 pub mod Meaning
 pub mod Compare
 pub mod Outcome
+pub mod Network
 pub mod Command
 pub mod Top

@@ -79,13 +79,15 @@ outputs_of (p ∷ pins) = with_output p.role p.name (outputs_of pins)
 abbrev pub is_over : List (List ℕ) → List (List Factor) → Bool
 is_over inputs function = list_all (λ p. list_all (λ f. is_among inputs f.name) p) function
 
--- 1 to 12 inputs, one output over them, and no name twice
+-- 1 to 12 inputs, a function over them, and no name twice
+abbrev pub is_cell : List (List ℕ) → List ℕ → List (List Factor) → Bool
+is_cell inputs output function =
+    nat_le 1 (length inputs) && nat_le (length inputs) 12 && is_distinct (output ∷ inputs) && is_over inputs function
+
+-- the cell has the library's one output
 abbrev pub IsCellOf : Library → Cell → Type 0
 IsCellOf l c =
-    (c.name ≡ l.cell) × (c.inputs ≡ inputs_of l.pins) × (outputs_of l.pins ≡ (c.output, c.function) ∷ [])
-    × (is_distinct (map (λ p. p.name) l.pins) ≡ true)
-    × (nat_le 1 (length c.inputs) ≡ true) × (nat_le (length c.inputs) 12 ≡ true)
-    × (is_over c.inputs c.function ≡ true)
+    (c.name ≡ l.cell) × (c.inputs ≡ inputs_of l.pins) × (outputs_of l.pins ≡ (c.output, c.function) ∷ []) × (is_cell c.inputs c.output c.function ≡ true)
 
 -- the bytes are a Liberty file of the cell, in the first form
 pub record IsLibertyOf (bytes : List ℕ) (cell : Cell) : Type 0 where

@@ -1,5 +1,5 @@
 -- The first form of a Verilog file for a cell: one flat module of gates in an order of dependence.
-use Rattle.std.specs.Prelude.{◌≡◌, ℕ, ◌==◌, ◌&&◌, nat_le, if◌then◌else◌, Bool, true, false, not, List, [], ◌∷◌, ◌++◌, map, length, codes}
+use Rattle.std.specs.Prelude.{◌≡◌, ℕ, ◌==◌, bytes_eq, ◌&&◌, nat_le, if◌then◌else◌, Bool, true, false, not, List, [], ◌∷◌, ◌++◌, map, length, codes}
 use Rattle.std.specs.List.{list_all}
 use Rattle.qual_core.specs.Tokens.{Token, word, sign, tokens_of, is_name}
 use Rattle.qual_core.specs.Spelling.{joined, together, spelled_name}
@@ -66,18 +66,19 @@ is_in_order known (g ∷ gates) = has_count g.kind g.nets && goes_on_from known 
 abbrev pub are_each_once : List (List ℕ) → List (List ℕ) → Bool
 are_each_once wanted names = length names == length wanted && is_distinct names && list_all (is_among wanted) names
 
--- the module is one for the cell
-pub record IsModuleFor (cell : Cell) (m : Module) : Type 0 where
-  pub name : m.name ≡ cell.name
-  pub ports : are_each_once (cell.inputs ++ cell.output ∷ []) m.ports ≡ true
-  pub inputs : are_each_once cell.inputs m.inputs ≡ true
-  pub outputs : m.outputs ≡ cell.output ∷ []
-  pub gates : nat_le (length m.gates) 512 ≡ true
-  pub order : is_in_order cell.inputs m.gates ≡ true
-  pub driven : is_among (map (λ g. first_net g.nets) m.gates) cell.output ≡ true
+-- the nets that gates drive
+abbrev pub driven_nets : List Gate → List (List ℕ)
+driven_nets gates = map (λ g. first_net g.nets) gates
+
+-- the module has the cell's name and pins, and at most 512 gates in an order of dependence, which drive the output
+abbrev pub is_module_for : Cell → Module → Bool
+is_module_for c m =
+    bytes_eq m.name c.name
+    && are_each_once (c.output ∷ c.inputs) m.ports && are_each_once c.inputs m.inputs && are_each_once (c.output ∷ []) m.outputs
+    && nat_le (length m.gates) 512 && is_in_order c.inputs m.gates && is_among (driven_nets m.gates) c.output
 
 -- the bytes are a Verilog file of the module for the cell, in the first form
 pub record IsVerilogOf (cell : Cell) (bytes : List ℕ) (m : Module) : Type 0 where
   pub formed : is_module m ≡ true
   pub spelled : tokens_of bytes ≡ spelled_module m
-  pub judged : IsModuleFor cell m
+  pub judged : is_module_for cell m ≡ true

@@ -7,6 +7,7 @@ use crate::stop::Stop;
 use std::marker::Model;
 
 /// What is left of a file, seen as its tokens.
+#[derive(Drop)]
 pub(crate) struct Cursor<'a> {
     rest: &'a [u8],
     quoted: bool,

@@ -1,12 +1,16 @@
 // The first form of a Verilog file.
-ghost use Rattle.std.specs.Prelude.{◌≡◌, IfOk, IsErrOf};
-ghost use Rattle.qual_core.specs.Verilog.{IsVerilogOf};
-ghost use Rattle.qual_core.specs.declared.verilog.Module.{Module};
+ghost use Rattle.std.specs.Prelude.{◌≡◌, [], ◌∷◌, Some, IfOk, IsErrOf};
+ghost use Rattle.std.specs.List.{list_all};
 ghost use Rattle.qual_core.specs.Reading.{Gives};
+ghost use Rattle.qual_core.specs.Tokens.{tokens_of};
+ghost use Rattle.qual_core.specs.Names.{is_among};
+ghost use Rattle.qual_core.specs.Verilog.{has_count, goes_on_from, is_in_order, first_net, driven_nets, are_each_once, is_module_for, IsVerilogOf};
+ghost use Rattle.qual_core.specs.declared.verilog.Module.{Module};
 ghost use Rattle.qual_core.specs.VerilogReading.{names_in, kind_of, gate_in, gates_in, declaration_in, ports_in, module_in};
 
 use crate::cursor::Cursor;
 use crate::liberty::Cell;
+use crate::names::{are_among, are_each_once, copied_names, is_among, is_distinct};
 use crate::stop::Stop;
 use std::alloc::Global;
 use text_scan::{Items, Text};
@@ -131,10 +135,142 @@ fn read_module(alloc: Global, at: &mut Cursor) -> Result<Module, Stop>
     })
 }
 
+fn has_count(kind: GateKind, nets: &[Text]) -> bool
+    ensures { result ≡ has_count kind nets.now }
+{
+    match kind {
+        GateKind::Buf | GateKind::Not => nets.len() == 2,
+        GateKind::And | GateKind::Or => 2 <= nets.len(),
+    }
+}
+
+// The name of the net that a gate drives.
+pub(crate) fn first_net(nets: &[Text]) -> &[u8]
+    ensures { result.now ≡ first_net nets.now }
+{
+    match nets.first() {
+        Some(output) => output.as_bytes(),
+        None => &[],
+    }
+}
+
+fn is_pin(cell: &Cell, name: &[u8]) -> bool
+    ensures { result ≡ is_among (cell.now.output ∷ cell.now.inputs) name.now }
+{
+    cell.output.as_bytes() == name || is_among(cell.inputs.as_slice(), name)
+}
+
+fn are_all_pins(cell: &Cell, names: &[Text]) -> bool
+    ensures { result ≡ list_all (is_among (cell.now.output ∷ cell.now.inputs)) names.now }
+{
+    names.iter().all(|name| is_pin(cell, name.as_bytes()))
+}
+
+// Whether the names are the cell's pins, each once.
+fn are_pins(cell: &Cell, names: &[Text]) -> bool
+    ensures { result ≡ are_each_once (cell.now.output ∷ cell.now.inputs) names.now }
+{
+    0 < names.len()
+        && names.len() - 1 == cell.inputs.len()
+        && is_distinct(names)
+        && are_all_pins(cell, names)
+}
+
+// Whether the names are the cell's output alone.
+fn is_the_output(cell: &Cell, names: &[Text]) -> bool
+    ensures { result ≡ are_each_once (cell.now.output ∷ []) names.now }
+{
+    let output = cell.output.as_bytes();
+    names.len() == 1
+        && is_distinct(names)
+        && names.iter().all(|name| output == name.as_bytes())
+}
+
+// Whether the first net is new and each other one is known.
+fn goes_on_from(known: &[Text], nets: &[Text]) -> bool
+    ensures { result ≡ goes_on_from known.now nets.now }
+{
+    match nets.first() {
+        Some(output) => {
+            !is_among(known, output.as_bytes()) && are_among(known, nets.split_at(1).1)
+        }
+        None => false,
+    }
+}
+
+// Whether the gates go on from each other, where these nets are known before them.
+fn is_in_order(alloc: Global, inputs: &[Text], gates: &[Gate]) -> Result<bool, Stop>
+    ensures ok { IfOk result (λ b. b ≡ is_in_order inputs.now gates.now) }
+    ensures cause { IsErrOf result Stop.Refused → ⊥ }
+{
+    let mut known = copied_names(alloc, inputs)?;
+    for gate in gates {
+        let nets = gate.nets.as_slice();
+        if !has_count(gate.kind, nets) || !goes_on_from(known.as_slice(), nets) {
+            return Ok(false);
+        }
+        known.push(nets[0].copied(alloc)?)?;
+    }
+    Ok(true)
+}
+
+// Whether a gate drives the net.
+fn drives(gates: &[Gate], net: &[u8]) -> bool
+    ensures { result ≡ is_among (driven_nets gates.now) net.now }
+{
+    for gate in gates {
+        if first_net(gate.nets.as_slice()) == net {
+            return true;
+        }
+    }
+    false
+}
+
+// The module that all tokens of the file spell.
+fn whole_module(alloc: Global, bytes: &[u8]) -> Result<Module, Stop>
+    ensures found { IfOk result (λ m. module_in (tokens_of bytes.now) ≡ Some (m, [])) }
+    ensures refused { IsErrOf result Stop.Refused → (m : Module) → module_in (tokens_of bytes.now) ≡ Some (m, []) → ⊥ }
+{
+    let mut at = Cursor::new(bytes);
+    let module = read_module(alloc, &mut at)?;
+    if at.is_at_end() {
+        Ok(module)
+    } else {
+        Err(Stop::Refused)
+    }
+}
+
+// Whether the module is one for the cell.
+fn is_module_for(alloc: Global, cell: &Cell, module: &Module) -> Result<bool, Stop>
+    ensures ok { IfOk result (λ b. b ≡ is_module_for cell.now module.now) }
+    ensures cause { IsErrOf result Stop.Refused → ⊥ }
+{
+    let inputs = cell.inputs.as_slice();
+    if module.name.as_bytes() != cell.name.as_bytes()
+        || !are_pins(cell, module.ports.as_slice())
+        || !are_each_once(inputs, module.inputs.as_slice())
+        || !is_the_output(cell, module.outputs.as_slice())
+        || 512 < module.gates.len()
+    {
+        return Ok(false);
+    }
+    let gates = module.gates.as_slice();
+    Ok(is_in_order(alloc, inputs, gates)? && drives(gates, cell.output.as_bytes()))
+}
+
 /// The module of a Verilog file in its first form for the cell.
+#[tactic(auto, using(crate::proofs::Files::no_verilog, crate::proofs::Files::verilog_of, crate::proofs::Files::no_module))]
 pub(crate) fn read_verilog(alloc: Global, cell: &Cell, bytes: &[u8]) -> Result<Module, Stop>
     ensures found { IfOk result (λ m. IsVerilogOf cell.now bytes.now m) }
     ensures refused { IsErrOf result Stop.Refused → (m : Module) → IsVerilogOf cell.now bytes.now m → ⊥ }
 {
-    Err(Stop::NoMemory)
+    let module = match whole_module(alloc, bytes) {
+        Ok(module) => module,
+        Err(stop) => return Err(stop),
+    };
+    if is_module_for(alloc, cell, &module)? {
+        Ok(module)
+    } else {
+        Err(Stop::Refused)
+    }
 }
