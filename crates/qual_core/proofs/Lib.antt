@@ -10,3 +10,7 @@ pub mod Lines
 pub mod Words
 pub mod Replies
 pub mod Places
+pub mod NamesAreLines
+pub mod Equal
+pub mod Saying
+pub mod Outcomes

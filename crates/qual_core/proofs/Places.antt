@@ -6,7 +6,7 @@ use Rattle.qual_core.specs.Names.{is_among}
 use Rattle.qual_core.specs.Command.{texts, options, option_word, file_word, files_needed, are_options_of, has_needed, place_from, place_of, with_place, files_named, name_of, named_command, command_of, word_at, word_at_place, name_beside, names}
 use Rattle.qual_core.specs.Outcome.{IsCompareReply, IsReplyOf}
 use Rattle.qual_core.specs.declared.reply.Reply.{Reply}
-use Rattle.qual_core.specs.declared.files.Failure.{Failure}
+use Rattle.qual_core.specs.declared.views.Failure.{Failure}
 use Rattle.qual_core.specs.declared.command.Command.{Command}
 use Rattle.qual_core.specs.declared.command.CommandName.{CommandName}
 use Rattle.qual_core.specs.declared.command.CommandName.TheVariants.{Compare}

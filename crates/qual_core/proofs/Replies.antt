@@ -5,7 +5,7 @@ use Rattle.qual_core.specs.Top.{IsCellRead, IsModuleRead}
 use Rattle.qual_core.specs.declared.liberty.Cell.{Cell}
 use Rattle.qual_core.specs.declared.verilog.Module.{Module}
 use Rattle.qual_core.specs.declared.reply.Reply.{Reply}
-use Rattle.qual_core.specs.declared.files.Failure.{Failure}
+use Rattle.qual_core.specs.declared.views.Failure.{Failure}
 
 -- a file of the shelf, and what was read of it
 pub record CellAt (file : List ℕ → Option (List ℕ)) (name : List ℕ) (cell : Option Cell) : Type 0 where

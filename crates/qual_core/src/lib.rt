@@ -4,7 +4,7 @@
 mod command;
 mod compare;
 mod cursor;
-mod files;
+
 mod liberty;
 mod names;
 mod network;
@@ -13,3 +13,4 @@ mod stop;
 mod text;
 mod top;
 mod verilog;
+mod views;

@@ -9,11 +9,11 @@ ghost use Rattle.qual_core.specs.Liberty.{IsLibertyOf};
 ghost use Rattle.qual_core.specs.Verilog.{IsVerilogOf};
 ghost use Rattle.qual_core.specs.Outcome.{IsJudged};
 ghost use Rattle.qual_core.specs.declared.command.CommandName.TheVariants.{Compare};
-ghost use Rattle.qual_core.specs.declared.files.Failure.TheVariants.{NoMemory};
+ghost use Rattle.qual_core.specs.declared.views.Failure.TheVariants.{NoMemory};
 
 use crate::command::{Command, CommandName, command_of};
 use crate::compare::compare_cell;
-use crate::files::{Failure, read_cell, read_module_of};
+use crate::views::{Failure, read_cell, read_module_of};
 use crate::liberty::Cell;
 use crate::reply::{Reply, Status};
 use crate::stop::Stop;
