@@ -7,10 +7,10 @@ pub mod Files
 pub mod Settling
 pub mod Tallies
 pub mod Lines
+pub mod Equal
 pub mod Words
 pub mod Replies
 pub mod Places
 pub mod NamesAreLines
-pub mod Equal
 pub mod Saying
 pub mod Outcomes

@@ -88,3 +88,6 @@ tally_with t v = record {
 abbrev pub tallied : List Values → Tally → Tally
 tallied [] t = t
 tallied (v ∷ rows) t = tallied rows (tally_with t v)
+
+abbrev pub no_rows : Tally
+no_rows = record { rows = 0; defined = 0; mismatch = None }
