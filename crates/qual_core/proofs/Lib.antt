@@ -14,3 +14,5 @@ pub mod Places
 pub mod NamesAreLines
 pub mod Saying
 pub mod Outcomes
+pub mod Ends
+pub mod One

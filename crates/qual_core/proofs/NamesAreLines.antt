@@ -1,5 +1,5 @@
 -- No line end stands in a name, since names are words.
-use Rattle.std.proofs.Common.{◌≡◌, ℕ, List, [], ◌∷◌, ◌++◌, Bool, true, false, not, ◌&&◌, ◌||◌, ◌==◌, nat_le, if◌then◌else◌, refl, codes, length, map}
+use Rattle.std.proofs.Common.{◌≡◌, ℕ, List, [], ◌∷◌, ◌++◌, Bool, true, false, not, ◌&&◌, ◌||◌, ◌==◌, nat_le, if◌then◌else◌, refl, ap, codes, length, map}
 use Rattle.qual_core.specs.Tokens.{Token, word, sign, is_word_byte, is_blank, is_line_end, begins_with_word, lengthened, tokens, without_line_ends, tokens_of}
 use Rattle.qual_core.specs.Compare.{IsLine}
 use Rattle.qual_core.specs.Liberty.{IsLibertyOf, spelled_pin, spelled_role, with_output, outputs_of}
@@ -64,7 +64,7 @@ lines_after (sign c ∷ a) b h = lines_after a b h
 
 role_line : (role : Role) (name o : List ℕ) (f : List (List Factor)) (os : List (List ℕ × List (List Factor))) → with_output role name os ≡ (o, f) ∷ [] → IsLine name → (os ≡ (o, f) ∷ [] → IsLine o) → IsLine o
 role_line Input name o f os e h k = k e
-role_line (Output g) name o f os e h k = let p : name ≡ o = cc in rw p at h
+role_line (Output g) name o f os e h k = let k : (name, g) ≡ (o, f) = cc in let p : name ≡ o = ap (λ (q : List ℕ × List (List Factor)). q.0) k in rw p at h
 
 pins_line : (pins : List Pin) (o : List ℕ) (f : List (List Factor)) → AreLineWords (together spelled_pin pins) → outputs_of pins ≡ (o, f) ∷ [] → IsLine o
 pins_line [] o f h e = cc

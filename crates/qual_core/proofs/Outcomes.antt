@@ -20,23 +20,19 @@ use Rattle.qual_core.specs.declared.compare.Mismatch.{Mismatch}
 use Rattle.qual_core.specs.declared.liberty.Cell.{Cell}
 use Rattle.qual_core.specs.declared.verilog.Module.{Module}
 use Rattle.qual_core.specs.declared.reply.Reply.{Reply}
-use Rattle.qual_core.proofs.Equal.{equal_everywhere}
+use Rattle.qual_core.proofs.Equal.{equal_everywhere, few_inputs}
 use Rattle.qual_core.proofs.Grammar.{each_true}
 use Rattle.qual_core.proofs.NamesAreLines.{name_line, output_line}
-use Rattle.qual_core.proofs.Saying.{VerdictEqual, said_equal, vectors_within, row_count, mismatch_within, says_more, refused_liberty, refused_verilog, usage_line}
-
--- a cell has at most 12 inputs
-few_inputs : (bytes : List ℕ) (c : Cell) → IsLibertyOf bytes c → length c.inputs ≤ 12
-few_inputs bytes c k = ?
+use Rattle.qual_core.proofs.Saying.{VerdictEqual, said_equal, vectors_within, row_count, mismatch_within, defined_within, says_more, refused_liberty, refused_verilog, usage_line}
 
 -- the text for a cell says it only where the module is equal
 judged_says : (liberty verilog : List ℕ) (c : Cell) (m : Module) (mismatch : Option Mismatch) (text : List ℕ) → IsLibertyOf liberty c → IsVerilogOf c verilog m → IsCompareText c m mismatch text → Says text VerdictEqual → IsEqualEverywhere c m
 judged_says liberty verilog c m mismatch text l v t s =
     let count : length t.rows ≡ length (vectors (length c.inputs)) = row_count c m _ t.rows t.each in
-    let bound : length (vectors (length c.inputs)) ≤ 2 ^ 12 = vectors_within [] (length c.inputs) 12 (few_inputs liberty c l) in
-    let defined : defined_count t.rows ≤ length t.rows = count_by-le-length (λ v. is_known v.liberty) t.rows in
+    let bound : length (vectors (length c.inputs)) ≤ 2 ^ 12 = vectors_within [] (length c.inputs) 12 (few_inputs c liberty l (length c.inputs) refl) in
+    let defined : defined_count t.rows ≤ length t.rows = defined_within t.rows in
     let told = rw t.whole at s in
-    equal_everywhere c m t.rows liberty verilog l v t.each
+    equal_everywhere c m t.rows l.judged.3 v.judged t.each
         (said_equal c.name c.output (length t.rows) (defined_count t.rows) (first_mismatch 1 t.rows) (name_line liberty c l) (output_line liberty c l)
             (omega arith) (omega arith) (λ f e. omega (arith, mismatch_within 1 t.rows f e)) told)
 
@@ -44,7 +40,7 @@ second_says : (liberty verilog : List ℕ) (c : Cell) (reply : Reply) → IsLibe
 second_says liberty verilog c reply l (inl h) s =
     let e : reply.text ≡ (refused (codes "verilog")).text = ap (λ (r : Reply). r.text) h.1 in
     absurd (refused_verilog (rw e at s))
-second_says liberty verilog c reply l (inr (m, v, mismatch, t, e)) s = (m, v, judged_says liberty verilog c m mismatch reply.text l v.1 t s)
+second_says liberty verilog c reply l (inr (m, v, (mismatch, t, e))) s = (m, v, judged_says liberty verilog c m mismatch reply.text l v.1 t s)
 
 compare_says : (words : List (List ℕ)) (file : List ℕ → Option (List ℕ)) (reply : Reply) (bytes : List ℕ) → IsSome (command_of words) → file (name_beside words Liberty) ≡ Some bytes → IsFirstReply bytes (file (name_beside words Verilog)) reply → Says reply.text VerdictEqual → AreEqual words file
 compare_says words file reply bytes is e (inl h) s =

@@ -11,7 +11,7 @@ use Rattle.tern_core.specs.declared.tern.Tern.TheVariants.{Zero, One, Unknown}
 use Rattle.tern_core.specs.Values.{symbol_of}
 use Rattle.desk_ports.specs.Sink.{AppendsPart}
 use Rattle.qual_core.specs.Meaning.{vectors, vectors_from, IsEqualEverywhere}
-use Rattle.qual_core.specs.Compare.{is_known, is_different, first_mismatch, defined_count, AreRows, finding_lines, verdict_lines, compare_lines, text_of_lines, IsLine, AreLines, Says}
+use Rattle.qual_core.specs.Compare.{is_known, is_different, first_mismatch, defined_count, AreRows, mismatch_tail, verdict_lines, compare_lines, text_of_lines, IsLine, AreLines, Says}
 use Rattle.qual_core.specs.declared.compare.Mismatch.{Mismatch}
 use Rattle.qual_core.specs.declared.compare.Values.{Values}
 use Rattle.qual_core.specs.declared.liberty.Cell.{Cell}
@@ -70,13 +70,23 @@ abbrev pub VerdictEqual : List ℕ
 VerdictEqual = codes "verdict equal"
 
 abbrev finding_line : List ℕ → Mismatch → List ℕ
-finding_line output f = codes "finding M1 " ++ (output ++ (codes " verilog row " ++ (decimal f.row ++ (codes " change - liberty " ++ (symbol_of f.liberty ∷ (codes " view " ++ symbol_of f.verilog ∷ []))))))
+finding_line output f = codes "finding M1 " ++ (output ++ mismatch_tail f)
+
+tail_is_line : (f : Mismatch) → f.row < 2 ^ 64 → IsLine (mismatch_tail f)
+tail_is_line f q =
+    let row : List ℕ = codes " verilog row " ++ decimal f.row in
+    let change : List ℕ = row ++ codes " change - liberty " in
+    let value : List ℕ = change ++ symbol_of f.liberty ∷ [] in
+    let view : List ℕ = value ++ codes " view " in
+    let a : IsLine row = line_of_append (codes " verilog row ") (decimal f.row) (search rules) (decimal_line f.row q) in
+    let b : IsLine change = line_of_append row (codes " change - liberty ") a (search rules) in
+    let d : IsLine value = line_of_append change (symbol_of f.liberty ∷ []) b (symbol_line f.liberty) in
+    let e : IsLine view = line_of_append value (codes " view ") d (search rules) in
+    line_of_append view (symbol_of f.verilog ∷ []) e (symbol_line f.verilog)
 
 finding_is_line : (output : List ℕ) (f : Mismatch) → IsLine output → f.row < 2 ^ 64 → IsLine (finding_line output f)
 finding_is_line output f p q =
-    line_of_append (codes "finding M1 ") _ (search rules) (line_of_append output _ p (line_of_append (codes " verilog row ") _ (search rules)
-    (line_of_append (decimal f.row) _ (decimal_line f.row q) (line_of_append (codes " change - liberty ") _ (search rules)
-    (line_of_append (symbol_of f.liberty ∷ []) _ (symbol_line f.liberty) (line_of_append (codes " view ") _ (search rules) (symbol_line f.verilog)))))))
+    line_of_append (codes "finding M1 ") (output ++ mismatch_tail f) (search rules) (line_of_append output (mismatch_tail f) p (tail_is_line f q))
 
 -- what stands in the lines where there is a mismatch
 not_among : (name output vectors defined : List ℕ) (f : Mismatch) → IsAmong VerdictEqual ((codes "compare " ++ name) ∷ (codes "vectors " ++ vectors) ∷ (codes "defined " ++ defined) ∷ finding_line output f ∷ verdict_lines (Some f)) → ⊥
@@ -123,6 +133,12 @@ mismatch_within row (v ∷ rows) f e =
       | true ↦ λ k. let g : row ≡ f.row = cc in omega arith
       | false ↦ λ k. let g = mismatch_within (row + 1) rows f k in omega arith
     ] e
+
+pub defined_within : (rows : List Values) → defined_count rows ≤ length rows
+defined_within [] = omega arith
+defined_within (v ∷ rows) =
+    let rest = defined_within rows in
+    elim (is_known v.liberty) as (λ b. is_known v.liberty ≡ b → defined_count (v ∷ rows) ≤ length (v ∷ rows)) [ true ↦ λ e. rw e (omega arith) | false ↦ λ e. rw e (omega arith) ] refl
 
 -- a text that only begins with another says what that one says
 pub says_more : (text more line : List ℕ) → Says text line → Says (text ++ more) line

@@ -7,7 +7,7 @@ use Rattle.desk_ports.specs.declared.asked.Asked.{Asked}
 use Rattle.qual_core.specs.Command.{names, command_of, name_beside}
 use Rattle.qual_core.specs.Meaning.{IsEqualEverywhere}
 use Rattle.qual_core.specs.Compare.{Says}
-use Rattle.qual_core.specs.Outcome.{MAX_FILE, IsLiberty, IsVerilog, IsOutcome}
+use Rattle.qual_core.specs.Outcome.{usage, MAX_FILE, IsLiberty, IsVerilog, IsOutcome}
 use Rattle.qual_core.specs.declared.command.Command.{Command}
 use Rattle.qual_core.specs.declared.command.FileOption.TheVariants.{Liberty, Verilog}
 use Rattle.qual_core.specs.declared.liberty.Cell.{Cell}
@@ -54,9 +54,10 @@ IsVerdict Faulty = Unit {0}
 IsVerdict FileRefused = Unit {0}
 IsVerdict status = ⊥
 
-abbrev pub IsUsageOr : Option Command → Status → Type 0
-IsUsageOr None status = status ≡ Usage
-IsUsageOr (Some _) status = IsVerdict status
+-- the usage line where the words are no command, and else a verdict
+abbrev pub IsUsageOrVerdict : Option Command → Reply → Type 0
+IsUsageOrVerdict None reply = reply ≡ usage
+IsUsageOrVerdict (Some _) reply = IsVerdict reply.status
 
 -- each of these files is there
 abbrev pub AreThere : (List ℕ → Option (List ℕ)) → List (List ℕ) → Type 0

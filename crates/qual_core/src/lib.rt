@@ -4,7 +4,6 @@
 mod command;
 mod compare;
 mod cursor;
-
 mod liberty;
 mod names;
 mod network;

@@ -3,7 +3,7 @@ ghost use Rattle.std.specs.Prelude.{◌≡◌, ◌≢◌, ◌≤◌, ◌<◌, �
 ghost use Rattle.desk_ports.specs.Faults.{Rose, NoneFails};
 ghost use Rattle.qual_core.specs.Command.{texts, command_of, names, word_at};
 ghost use Rattle.qual_core.specs.Outcome.{usage, IsCompareReply, IsReplyOf, IsOutcome};
-ghost use Rattle.qual_core.specs.Top.{Blames, AsksFor, AreThere, IsVerdict, IsUsageOr, NoCountRose, UsageExactly, AnswersExactly, Writes, AreAccepted, AreEqual, IsWhole, HasRoom};
+ghost use Rattle.qual_core.specs.Top.{Blames, AsksFor, AreThere, IsVerdict, IsUsageOrVerdict, NoCountRose, UsageExactly, AnswersExactly, Writes, AreAccepted, AreEqual, IsWhole, HasRoom};
 ghost use Rattle.qual_core.specs.Compare.{Says};
 ghost use Rattle.qual_core.specs.Liberty.{IsLibertyOf};
 ghost use Rattle.qual_core.specs.Verilog.{IsVerilogOf};
@@ -126,7 +126,7 @@ fn compare_named<S: Shelf>(
 fn reply_to<S: Shelf>(alloc: Global, words: &[String], shelf: &mut S) -> Result<Reply, Failure>
     ensures reply { IsTrue S.tells
         → IfOk result (λ reply. IsOutcome (texts words.now) (S.file shelf.old) reply) }
-    ensures status { IfOk result (λ reply. IsUsageOr (command_of (texts words.now)) reply.status) }
+    ensures status { IfOk result (λ reply. IsUsageOrVerdict (command_of (texts words.now)) reply) }
     ensures cause { Blames (IsErrOf result Failure.ReadFault) (S.faults shelf.old) (S.faults shelf.new) }
     ensures no_command { command_of (texts words.now) ≡ None → IsErrOf result Failure.ReadFault → ⊥ }
     ensures succeeds { IsTrue S.tells → NoneFails (S.fails shelf.old)
