@@ -31,11 +31,11 @@ cut_lines (b ∷ bytes) =
     let k = cut_lines bytes in
     elim (is_word_byte b) as (λ x. is_word_byte b ≡ x → AreLineWords (if x then (if begins_with_word bytes then lengthened b (tokens bytes) else word (b ∷ []) ∷ tokens bytes) else (if is_blank b then tokens bytes else sign b ∷ tokens bytes))) [
       | true ↦ λ e.
-        let n = no_line_end b e in
-        elim (begins_with_word bytes) as (λ y. AreLineWords (if y then lengthened b (tokens bytes) else word (b ∷ []) ∷ tokens bytes)) [
-          | true ↦ lengthened_lines b (tokens bytes) n k
-          | false ↦ ((n, tt), k)
-        ]
+          let n = no_line_end b e in
+          elim (begins_with_word bytes) as (λ y. AreLineWords (if y then lengthened b (tokens bytes) else word (b ∷ []) ∷ tokens bytes)) [
+            | true ↦ lengthened_lines b (tokens bytes) n k
+            | false ↦ ((n, tt), k)
+          ]
       | false ↦ λ e. elim (is_blank b) as (λ y. AreLineWords (if y then tokens bytes else sign b ∷ tokens bytes)) [ true ↦ k | false ↦ k ]
     ] refl
 
@@ -70,8 +70,8 @@ pins_line : (pins : List Pin) (o : List ℕ) (f : List (List Factor)) → AreLin
 pins_line [] o f h e = cc
 pins_line (p ∷ pins) o f h e =
     role_line p.role p.name o f (outputs_of pins) e
-        (lines_before (spelled_pin p) (together spelled_pin pins) h).1.0
-        (λ k. pins_line pins o f (lines_after (spelled_pin p) (together spelled_pin pins) h) k)
+    (lines_before (spelled_pin p) (together spelled_pin pins) h).1.0
+    (λ k. pins_line pins o f (lines_after (spelled_pin p) (together spelled_pin pins) h) k)
 
 pub name_line : (bytes : List ℕ) (c : Cell) → IsLibertyOf bytes c → IsLine c.name
 name_line bytes c k =

@@ -33,8 +33,8 @@ judged_says liberty verilog c m mismatch text l v t s =
     let defined : defined_count t.rows ≤ length t.rows = defined_within t.rows in
     let told = rw t.whole at s in
     equal_everywhere c m t.rows l.judged.3 v.judged t.each
-        (said_equal c.name c.output (length t.rows) (defined_count t.rows) (first_mismatch 1 t.rows) (name_line liberty c l) (output_line liberty c l)
-            (omega arith) (omega arith) (λ f e. omega (arith, mismatch_within 1 t.rows f e)) told)
+    (said_equal c.name c.output (length t.rows) (defined_count t.rows) (first_mismatch 1 t.rows) (name_line liberty c l) (output_line liberty c l)
+    (omega arith) (omega arith) (λ f e. omega (arith, mismatch_within 1 t.rows f e)) told)
 
 second_says : (liberty verilog : List ℕ) (c : Cell) (reply : Reply) → IsLibertyOf liberty c → IsSecondReply c verilog reply → Says reply.text VerdictEqual → (m : Module) × IsVerilog c verilog m × IsEqualEverywhere c m
 second_says liberty verilog c reply l (inl h) s =

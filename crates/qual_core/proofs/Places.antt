@@ -26,9 +26,9 @@ placed n (o ∷ v ∷ rest) wanted h =
     elim (bytes_eq o wanted) as (λ b. bytes_eq o wanted ≡ b → PlacedAt n (o ∷ v ∷ rest) wanted) [
       | true ↦ λ e. record { place = n + 1; found = rw e refl; within = omega arith }
       | false ↦ λ e.
-        let k : is_among (options rest) wanted ≡ true = rw e at h in
-        let p = placed (n + 2) rest wanted k in
-        record { place = p.place; found = rw e p.found; within = omega (arith, p.within) }
+          let k : is_among (options rest) wanted ≡ true = rw e at h in
+          let p = placed (n + 2) rest wanted k in
+          record { place = p.place; found = rw e p.found; within = omega (arith, p.within) }
     ] refl
 
 -- the two files of a comparison

@@ -103,13 +103,18 @@ not_among name output vectors defined f (inr (inr (inr (inr (inr (inr (inr h))))
 pub said_equal : (name output : List ℕ) (n d : ℕ) (mismatch : Option Mismatch) → IsLine name → IsLine output → n < 2 ^ 64 → d < 2 ^ 64 → ((f : Mismatch) → mismatch ≡ Some f → f.row < 2 ^ 64) → Says (text_of_lines (compare_lines name output n d mismatch)) VerdictEqual → mismatch ≡ None
 said_equal name output n d None p q h k r s = refl
 said_equal name output n d (Some f) p q h k r s =
-    let lines : AreLines (compare_lines name output n d (Some f)) =
-        (line_of_append (codes "compare ") name (search rules) p
-        , (line_of_append (codes "vectors ") _ (search rules) (decimal_line n h)
-        , (line_of_append (codes "defined ") _ (search rules) (decimal_line d k)
-        , (finding_is_line output f q (r f refl), (search rules, (search rules, (search rules, tt))))))) in
+    let lines : AreLines (compare_lines name output n d (Some f)) = (
+      line_of_append (codes "compare ") name (search rules) p,
+      (
+        line_of_append (codes "vectors ") _ (search rules) (decimal_line n h),
+        (
+          line_of_append (codes "defined ") _ (search rules) (decimal_line d k),
+          (finding_is_line output f q (r f refl), (search rules, (search rules, (search rules, tt)))),
+        ),
+      ),
+    ) in
     absurd (not_among name output (decimal n) (decimal d) f
-        (said_line (compare_lines name output n d (Some f)) s.before VerdictEqual s.after lines s.lines (search rules) s.whole))
+    (said_line (compare_lines name output n d (Some f)) s.before VerdictEqual s.after lines s.lines (search rules) s.whole))
 
 -- how many rows there are
 pub vectors_within : (front : List Tern) (n k : ℕ) → n ≤ k → length (vectors_from front n) ≤ 2 ^ k

@@ -77,8 +77,8 @@ options-split name [] d h = absurd (omega arith)
 options-split name (a ∷ []) d h = absurd (omega arith)
 options-split name (a ∷ b ∷ w) d h =
     regrouped (are_pairs (texts w)) (is_distinct (options (texts w)))
-        (list_all (is_among (map option_word (files_needed name))) (options (texts w))) (list_all is_file_name (values (texts w)))
-        (is_among (map option_word (files_needed name)) (string_bytes a)) (is_among (options (texts w)) (string_bytes a)) (is_file_name (string_bytes b))
+    (list_all (is_among (map option_word (files_needed name))) (options (texts w))) (list_all is_file_name (values (texts w)))
+    (is_among (map option_word (files_needed name)) (string_bytes a)) (is_among (options (texts w)) (string_bytes a)) (is_file_name (string_bytes b))
 
 pub options_end : (name : CommandName) (w : List (String Global)) → length w < 2 → are_options_of name (texts w) ≡ (length w == 0)
 options_end name [] h = refl

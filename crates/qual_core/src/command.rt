@@ -165,7 +165,11 @@ fn name_of(word: &str) -> Option<CommandName>
     ensures { result ≡ name_of word.now }
 {
     let name = CommandName::Compare;
-    if word == name.word() { Some(name) } else { None }
+    if word == name.word() {
+        Some(name)
+    } else {
+        None
+    }
 }
 
 // Adds the file with the place of its name, if the words name one.

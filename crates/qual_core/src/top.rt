@@ -13,11 +13,11 @@ ghost use Rattle.qual_core.specs.declared.views.Failure.TheVariants.{NoMemory};
 
 use crate::command::{Command, CommandName, command_of};
 use crate::compare::compare_cell;
-use crate::views::{Failure, read_cell, read_module_of};
 use crate::liberty::Cell;
 use crate::reply::{Reply, Status};
 use crate::stop::Stop;
 use crate::verilog::Module;
+use crate::views::{Failure, read_cell, read_module_of};
 use desk_ports::{Shelf, Sink};
 use std::alloc::Global;
 use text_scan::Text;

@@ -15,7 +15,7 @@ bounds-as_slice-index-2 c = omega (arith, ap length c.as_slice.ensures)
 pub returns : goal.returns
 returns c = record {
   within = rw (c.as_slice.ensures, ← text_count c.args.words.now)
-    (place_within (texts c.args.words.now) c.args.command.now c.args.index c.index-as_slice-index.result c.requires.command c.requires.index);
+      (place_within (texts c.args.words.now) c.args.command.now c.args.index c.index-as_slice-index.result c.requires.command c.requires.index);
   name = rw c.as_slice.ensures
-    (sym (name_at (texts c.args.words.now) c.args.command.now c.args.index c.index-as_slice-index.result c.requires.command c.requires.index));
+      (sym (name_at (texts c.args.words.now) c.args.command.now c.args.index c.index-as_slice-index.result c.requires.command c.requires.index));
 }
