@@ -8,3 +8,11 @@ pub mod Settling
 pub mod Tallies
 pub mod Lines
 pub mod Equal
+pub mod Words
+pub mod Replies
+pub mod Places
+pub mod NamesAreLines
+pub mod Saying
+pub mod Outcomes
+pub mod Ends
+pub mod One

@@ -10,3 +10,5 @@ pub mod Meaning
 pub mod Compare
 pub mod Outcome
 pub mod Network
+pub mod Command
+pub mod Top

@@ -4,6 +4,11 @@ use Rattle.tern_core.specs.declared.tern.Tern.{Tern}
 use Rattle.qual_core.specs.Liberty.{IsLibertyOf}
 use Rattle.qual_core.specs.Verilog.{IsVerilogOf}
 use Rattle.qual_core.specs.Compare.{IsCompareText}
+use Rattle.qual_core.specs.Command.{command_of, name_beside}
+use Rattle.qual_core.specs.declared.command.Command.{Command}
+use Rattle.qual_core.specs.declared.command.CommandName.{CommandName}
+use Rattle.qual_core.specs.declared.command.CommandName.TheVariants.{Compare}
+use Rattle.qual_core.specs.declared.command.FileOption.TheVariants.{Liberty, Verilog}
 use Rattle.qual_core.specs.declared.liberty.Cell.{Cell}
 use Rattle.qual_core.specs.declared.verilog.Module.{Module}
 use Rattle.qual_core.specs.declared.compare.Mismatch.{Mismatch}
@@ -50,3 +55,18 @@ abbrev pub IsFirstReply : List ℕ → Option (List ℕ) → Reply → Type 0
 IsFirstReply bytes second reply =
     (((cell : Cell) → IsLiberty bytes cell → ⊥) × (reply ≡ refused (codes "liberty")))
     ⊎ ((cell : Cell) × IsLiberty bytes cell × (verilog : List ℕ) × (second ≡ Some verilog) × IsSecondReply cell verilog reply)
+
+-- the reply for the files of these names
+abbrev pub IsCompareReply : List ℕ → List ℕ → (List ℕ → Option (List ℕ)) → Reply → Type 0
+IsCompareReply liberty verilog file reply = (bytes : List ℕ) × (file liberty ≡ Some bytes) × IsFirstReply bytes (file verilog) reply
+
+abbrev pub IsReplyOf : CommandName → List (List ℕ) → (List ℕ → Option (List ℕ)) → Reply → Type 0
+IsReplyOf Compare words file reply = IsCompareReply (name_beside words Liberty) (name_beside words Verilog) file reply
+
+abbrev pub IsReplyTo : Option Command → List (List ℕ) → (List ℕ → Option (List ℕ)) → Reply → Type 0
+IsReplyTo None words file reply = reply ≡ usage
+IsReplyTo (Some c) words file reply = IsReplyOf c.name words file reply
+
+-- What is answered and written for the words over the files, where no device fails. There is no outcome where a file that is started is not there.
+abbrev pub IsOutcome : List (List ℕ) → (List ℕ → Option (List ℕ)) → Reply → Type 0
+IsOutcome words file reply = IsReplyTo (command_of words) words file reply

@@ -1,0 +1,28 @@
+use Rattle.std.proofs.Common.{arith, ◌≡◌, ◌∷◌, [], List, ℕ}
+use Rattle.qual_core.specs.Command.{texts, names}
+use Rattle.qual_core.proofs.Places.{file_count, reply_named, named_both}
+use Rattle.qual_core.proofs.top.compare_named.Goals as goal
+
+pub file_name-liberty-requires-clause-index : goal.file_name-liberty-requires-clause-index
+file_name-liberty-requires-clause-index g c = omega (arith, file_count (texts c.args.words.now) c.args.command.now c.requires)
+
+pub file_name-verilog-requires-clause-index : goal.file_name-verilog-requires-clause-index
+file_name-verilog-requires-clause-index g c = omega (arith, file_count (texts c.args.words.now) c.args.command.now c.requires)
+
+pub returns-clause-reply : goal.returns-clause-reply
+returns-clause-reply g c told =
+    reply_named c.compare_files.result (texts c.args.words.now) c.args.command.now (g.S.Shelf.file c.args.shelf.now)
+    c.file_name-liberty.result.now c.file_name-verilog.result.now c.requires c.file_name-liberty.ensures c.file_name-verilog.ensures
+    (c.compare_files.ensures.reply told)
+
+pub returns-clause-succeeds : goal.returns-clause-succeeds
+returns-clause-succeeds g c =
+    let n = named_both (texts c.args.words.now) c.args.command.now c.file_name-liberty.result.now c.file_name-verilog.result.now
+    c.requires c.file_name-liberty.ensures c.file_name-verilog.ensures in
+    rw n c.compare_files.ensures.succeeds
+
+pub returns-clause-asked : goal.returns-clause-asked
+returns-clause-asked g c =
+    let n = named_both (texts c.args.words.now) c.args.command.now c.file_name-liberty.result.now c.file_name-verilog.result.now
+    c.requires c.file_name-liberty.ensures c.file_name-verilog.ensures in
+    rw n c.compare_files.ensures.asked

@@ -1,0 +1,202 @@
+// The top call.
+ghost use Rattle.std.specs.Prelude.{◌≡◌, ◌≢◌, ◌≤◌, ◌<◌, ◌++◌, ◌∷◌, ◌⊎◌, [], List, ℕ, Option, Some, None, IsTrue, IfOk, IfSome, IsErrOf, codes, get_or, length};
+ghost use Rattle.desk_ports.specs.Faults.{Rose, NoneFails};
+ghost use Rattle.qual_core.specs.Command.{texts, command_of, names, word_at};
+ghost use Rattle.qual_core.specs.Outcome.{usage, IsCompareReply, IsReplyOf, IsOutcome};
+ghost use Rattle.qual_core.specs.Top.{Blames, AsksFor, AreThere, IsVerdict, IsUsageOrVerdict, NoCountRose, UsageExactly, AnswersExactly, Writes, AreAccepted, AreEqual, IsWhole, HasRoom};
+ghost use Rattle.qual_core.specs.Compare.{Says};
+ghost use Rattle.qual_core.specs.Liberty.{IsLibertyOf};
+ghost use Rattle.qual_core.specs.Verilog.{IsVerilogOf};
+ghost use Rattle.qual_core.specs.Outcome.{IsJudged};
+ghost use Rattle.qual_core.specs.declared.command.CommandName.TheVariants.{Compare};
+ghost use Rattle.qual_core.specs.declared.views.Failure.TheVariants.{NoMemory};
+
+use crate::command::{Command, CommandName, command_of};
+use crate::compare::compare_cell;
+use crate::liberty::Cell;
+use crate::reply::{Reply, Status};
+use crate::stop::Stop;
+use crate::verilog::Module;
+use crate::views::{Failure, read_cell, read_module_of};
+use desk_ports::{Shelf, Sink};
+use std::alloc::Global;
+use text_scan::Text;
+
+const USAGE: &str = "usage: qual compare|check|replay|serve|sample --option value\n";
+
+impl From<text_scan::NoMemory> for Failure {
+    ghost from_gives = { λ _ e. e ≡ NoMemory };
+
+    fn from(_: text_scan::NoMemory) -> Self {
+        Failure::NoMemory
+    }
+}
+
+fn reply_with(alloc: Global, status: Status, text: &str) -> Result<Reply, Failure>
+    ensures ok { IfOk result (λ reply. reply ≡ record { status = status; text = text.now }) }
+    ensures cause { IsErrOf result Failure.ReadFault → ⊥ }
+{
+    Ok(Reply {
+        status,
+        text: Text::from_bytes(alloc, text.as_bytes())?,
+    })
+}
+
+fn judged(alloc: Global, cell: &Cell, circuit: &Module) -> Result<Reply, Failure>
+    requires cell { (bytes : List ℕ) × IsLibertyOf bytes cell.now }
+    requires circuit { (bytes : List ℕ) × IsVerilogOf cell.now bytes circuit.now }
+    ensures judged { IfOk result (λ reply. IsJudged cell.now circuit.now reply) }
+    ensures cause { IsErrOf result Failure.ReadFault → ⊥ }
+{
+    match compare_cell(alloc, cell, circuit) {
+        Ok(reply) => Ok(reply),
+        Err(_) => Err(Failure::NoMemory),
+    }
+}
+
+fn compare_files<S: Shelf>(
+    alloc: Global,
+    shelf: &mut S,
+    liberty: &str,
+    verilog: &str,
+) -> Result<Reply, Failure>
+    ensures reply { IsTrue S.tells
+        → IfOk result (λ reply. IsCompareReply liberty.now verilog.now (S.file shelf.old) reply) }
+    ensures verdict { IfOk result (λ reply. IsVerdict reply.status) }
+    ensures cause { Blames (IsErrOf result Failure.ReadFault) (S.faults shelf.old) (S.faults shelf.new) }
+    ensures succeeds { IsTrue S.tells → NoneFails (S.fails shelf.old)
+        → AreThere (S.file shelf.old) (liberty.now ∷ verilog.now ∷ []) → IsErrOf result Failure.ReadFault → ⊥ }
+    ensures asked { IsTrue S.tells → AsksFor (liberty.now ∷ verilog.now ∷ []) (S.file shelf.old)
+        (S.expects shelf.old) (S.asked shelf.old) (S.asked shelf.new) }
+    ensures files { S.file shelf.new ≡ S.file shelf.old }
+{
+    let Some(cell) = read_cell(alloc, shelf, liberty)? else {
+        return reply_with(alloc, Status::FileRefused, "refused liberty not read yet\n");
+    };
+    let Some(circuit) = read_module_of(alloc, shelf, verilog, &cell)? else {
+        return reply_with(alloc, Status::FileRefused, "refused verilog not read yet\n");
+    };
+    judged(alloc, &cell, &circuit)
+}
+
+// The place among the words of the name of the file with this index in reading order.
+fn file_place(words: &[String], command: &Command, index: usize) -> usize
+    requires command { command_of (texts words.now) ≡ Some command.now }
+    requires index { index < length command.now.files }
+    ensures within { result < length words.now }
+    ensures name { word_at (texts words.now) result ≡ get_or (names (texts words.now)) index [] }
+{
+    command.files.as_slice()[index].1
+}
+
+#[tactic(auto, using(crate::proofs::Places::text_at))]
+// The name of the file with this index in reading order.
+fn file_name<'a>(words: &'a [String], command: &Command, index: usize) -> &'a str
+    requires command { command_of (texts words.now) ≡ Some command.now }
+    requires index { index < length command.now.files }
+    ensures { result.now ≡ get_or (names (texts words.now)) index [] }
+{
+    words[file_place(words, command, index)].as_str()
+}
+
+// Compares the two files that the words name.
+fn compare_named<S: Shelf>(
+    alloc: Global,
+    shelf: &mut S,
+    words: &[String],
+    command: &Command,
+) -> Result<Reply, Failure>
+    requires { command_of (texts words.now) ≡ Some command.now }
+    ensures reply { IsTrue S.tells
+        → IfOk result (λ reply. IsReplyOf Compare (texts words.now) (S.file shelf.old) reply) }
+    ensures verdict { IfOk result (λ reply. IsVerdict reply.status) }
+    ensures cause { Blames (IsErrOf result Failure.ReadFault) (S.faults shelf.old) (S.faults shelf.new) }
+    ensures succeeds { IsTrue S.tells → NoneFails (S.fails shelf.old)
+        → AreThere (S.file shelf.old) (names (texts words.now)) → IsErrOf result Failure.ReadFault → ⊥ }
+    ensures asked { IsTrue S.tells → AsksFor (names (texts words.now)) (S.file shelf.old)
+        (S.expects shelf.old) (S.asked shelf.old) (S.asked shelf.new) }
+    ensures files { S.file shelf.new ≡ S.file shelf.old }
+{
+    let liberty = file_name(words, command, 0);
+    let verilog = file_name(words, command, 1);
+    compare_files(alloc, shelf, liberty, verilog)
+}
+
+// What is to be answered and written for the words.
+fn reply_to<S: Shelf>(alloc: Global, words: &[String], shelf: &mut S) -> Result<Reply, Failure>
+    ensures reply { IsTrue S.tells
+        → IfOk result (λ reply. IsOutcome (texts words.now) (S.file shelf.old) reply) }
+    ensures status { IfOk result (λ reply. IsUsageOrVerdict (command_of (texts words.now)) reply) }
+    ensures cause { Blames (IsErrOf result Failure.ReadFault) (S.faults shelf.old) (S.faults shelf.new) }
+    ensures no_command { command_of (texts words.now) ≡ None → IsErrOf result Failure.ReadFault → ⊥ }
+    ensures succeeds { IsTrue S.tells → NoneFails (S.fails shelf.old)
+        → AreThere (S.file shelf.old) (names (texts words.now)) → IsErrOf result Failure.ReadFault → ⊥ }
+    ensures asked { IsTrue S.tells → AsksFor (names (texts words.now)) (S.file shelf.old)
+        (S.expects shelf.old) (S.asked shelf.old) (S.asked shelf.new) }
+    ensures files { S.file shelf.new ≡ S.file shelf.old }
+{
+    let Some(command) = command_of(alloc, words)? else {
+        return reply_with(alloc, Status::Usage, USAGE);
+    };
+    match command.name {
+        CommandName::Compare => compare_named(alloc, shelf, words, &command),
+    }
+}
+
+/// Does what the words say: it reads the files that they name, and writes one text.
+///
+/// It writes the usage line where the words are no command, and the line of a refused file where
+/// one isn't read in its form. It starts each file once at most, in reading order, and reads no
+/// more than 1,048,577 bytes of it.
+pub fn qual<S: Shelf, K: Sink>(
+    alloc: Global,
+    words: &[String],
+    shelf: &mut S,
+    out: &mut K,
+) -> Status
+    // Where the text written says that the cell is equal, it is.
+    ensures equal { IsTrue S.tells → IsTrue K.tells → (text : List ℕ)
+        → K.written out.new ≡ K.written out.old ++ text → Says text (codes "verdict equal")
+        → AreEqual (texts words.now) (S.file shelf.old) }
+
+    // The bytes written are those of the outcome.
+    ensures text { IsTrue S.tells → IsTrue K.tells → Writes result
+        (IsOutcome (texts words.now) (S.file shelf.old)) (K.written out.old) (K.written out.new) }
+    ensures usage_line { IsTrue K.tells → result ≡ Status.Usage
+        → K.written out.new ≡ K.written out.old ++ usage.text }
+
+    // Each status has its cause. Those of a fault come where the count of the device rose.
+    ensures read_fault { Blames (result ≡ Status.ReadFault) (S.faults shelf.old) (S.faults shelf.new) }
+    ensures write_fault { Blames (result ≡ Status.WriteFault) (K.faults out.old) (K.faults out.new) }
+    ensures usage { UsageExactly result (command_of (texts words.now)) (NoCountRose
+        (S.faults shelf.old) (S.faults shelf.new) (K.faults out.old) (K.faults out.new)) }
+    ensures answer { IsTrue S.tells → AnswersExactly result (IsOutcome (texts words.now) (S.file shelf.old))
+        (NoCountRose (S.faults shelf.old) (S.faults shelf.new) (K.faults out.old) (K.faults out.new)) }
+
+    // Two files that are accepted are compared, and the whole text is written.
+    ensures complete { IsTrue S.tells → IsTrue K.tells → AreAccepted (texts words.now) (S.file shelf.old)
+        → NoCountRose (S.faults shelf.old) (S.faults shelf.new) (K.faults out.old) (K.faults out.new)
+        → (result ≡ Status.NoMemory) ⊎ IsWhole result (IsOutcome (texts words.now) (S.file shelf.old))
+        (K.written out.old) (K.written out.new) }
+
+    // No device fails by itself where none is told to.
+    ensures no_read_fault { IsTrue S.tells → NoneFails (S.fails shelf.old)
+        → AreThere (S.file shelf.old) (names (texts words.now)) → result ≢ Status.ReadFault }
+    ensures no_write_fault { IsTrue S.tells → IsTrue K.tells → NoneFails (K.fails out.old)
+        → HasRoom (IsOutcome (texts words.now) (S.file shelf.old)) (K.room out.old)
+        → result ≢ Status.WriteFault }
+
+    // What is asked of the shelf, and what stays.
+    ensures asked { IsTrue S.tells → AsksFor (names (texts words.now)) (S.file shelf.old)
+        (S.expects shelf.old) (S.asked shelf.old) (S.asked shelf.new) }
+    ensures files { S.file shelf.new ≡ S.file shelf.old }
+{
+    match reply_to(alloc, words, shelf) {
+        Err(Failure::ReadFault) => Status::ReadFault,
+        Err(Failure::NoMemory) => Status::NoMemory,
+        Ok(reply) => match out.put(reply.text.as_bytes()) {
+            Ok(()) => reply.status,
+            Err(_) => Status::WriteFault,
+        },
+    }
+}
