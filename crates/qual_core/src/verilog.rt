@@ -181,9 +181,7 @@ fn is_the_output(cell: &Cell, names: &[Text]) -> bool
     ensures { result ≡ are_each_once (cell.now.output ∷ []) names.now }
 {
     let output = cell.output.as_bytes();
-    names.len() == 1
-        && is_distinct(names)
-        && names.iter().all(|name| output == name.as_bytes())
+    names.len() == 1 && is_distinct(names) && names.iter().all(|name| output == name.as_bytes())
 }
 
 // Whether the first net is new and each other one is known.
@@ -242,7 +240,7 @@ fn whole_module(alloc: Global, bytes: &[u8]) -> Result<Module, Stop>
 
 // Whether the module is one for the cell.
 fn is_module_for(alloc: Global, cell: &Cell, module: &Module) -> Result<bool, Stop>
-    ensures ok { IfOk result (λ b. b ≡ is_module_for cell.now module.now) }
+    ensures ok { IfOk result (λ b. b ≡ is_module_for cell.now «module».now) }
     ensures cause { IsErrOf result Stop.Refused → ⊥ }
 {
     let inputs = cell.inputs.as_slice();
