@@ -1,0 +1,9 @@
+//! User-defined primitives (IEEE 1364-2005, clause 8): from a primitive's text to a table that answers.
+#![tactic(auto)]
+
+mod answer;
+mod row;
+mod symbol;
+
+pub use row::{EdgeRow, LevelRow, Row};
+pub use symbol::{EdgeSymbol, LevelSymbol, NextState};
