@@ -23,16 +23,16 @@ covers Binary One = true
 covers Binary Unknown = false
 covers Any w = true
 
-abbrev pub is_change : Tern → Tern → Bool
-is_change Zero Zero = false
-is_change One One = false
-is_change Unknown Unknown = false
-is_change v w = true
+abbrev pub differ : Tern → Tern → Bool
+differ Zero Zero = false
+differ One One = false
+differ Unknown Unknown = false
+differ v w = true
 
 -- A change is from a value to another one. `(vw)` covers those from what v covers to what w covers;
 -- `r` is (01), `f` is (10), `p` is (01), (0x) and (x1), `n` is (10), (1x) and (x0), `*` is any change.
 abbrev pub covers_change : EdgeSymbol → Tern → Tern → Bool
-covers_change (Between v w) old new = is_change old new && (covers v old && covers w new)
+covers_change (Between v w) old new = differ old new && (covers v old && covers w new)
 covers_change Rising Zero One = true
 covers_change Rising old new = false
 covers_change Falling One Zero = true
@@ -45,7 +45,7 @@ covers_change PotentialFalling One Zero = true
 covers_change PotentialFalling One Unknown = true
 covers_change PotentialFalling Unknown Zero = true
 covers_change PotentialFalling old new = false
-covers_change AnyChange old new = is_change old new
+covers_change AnyChange old new = differ old new
 
 -- the value that a row gives in a state: `-` is the state itself
 abbrev pub next_value : NextState → Tern → Tern

@@ -2,8 +2,11 @@
 #![tactic(auto)]
 
 mod answer;
+mod read;
+mod refusal;
 mod row;
 mod symbol;
 
+pub use refusal::UdpRefusal;
 pub use row::{EdgeRow, LevelRow, Row};
 pub use symbol::{EdgeSymbol, LevelSymbol, NextState};

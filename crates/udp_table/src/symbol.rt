@@ -1,5 +1,5 @@
 ghost use Rattle.std.specs.Prelude.{◌≡◌};
-ghost use Rattle.udp_table.specs.Symbols.{covers, covers_change, is_change, next_value, covers_all};
+ghost use Rattle.udp_table.specs.Symbols.{covers, covers_change, differ, next_value, covers_all};
 
 use tern_core::Tern;
 
@@ -61,9 +61,7 @@ impl EdgeSymbol {
         ensures { result ≡ covers_change self old new }
     {
         match self {
-            EdgeSymbol::Between(from, to) => is_change(old, new)
-                && from.covers(old)
-                && to.covers(new),
+            EdgeSymbol::Between(from, to) => differ(old, new) && from.covers(old) && to.covers(new),
             EdgeSymbol::Rising => matches!((old, new), (Tern::Zero, Tern::One)),
             EdgeSymbol::Falling => matches!((old, new), (Tern::One, Tern::Zero)),
             EdgeSymbol::PotentialRising => matches!(
@@ -74,7 +72,7 @@ impl EdgeSymbol {
                 (old, new),
                 (Tern::One, Tern::Zero | Tern::Unknown) | (Tern::Unknown, Tern::Zero)
             ),
-            EdgeSymbol::AnyChange => is_change(old, new),
+            EdgeSymbol::AnyChange => differ(old, new),
         }
     }
 }
@@ -91,8 +89,8 @@ impl NextState {
     }
 }
 
-fn is_change(old: Tern, new: Tern) -> bool
-    ensures { result ≡ is_change old new }
+fn differ(old: Tern, new: Tern) -> bool
+    ensures { result ≡ differ old new }
 {
     match (old, new) {
         (Tern::Zero, Tern::Zero) | (Tern::One, Tern::One) | (Tern::Unknown, Tern::Unknown) => false,
