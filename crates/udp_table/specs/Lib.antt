@@ -6,3 +6,4 @@ pub mod Table
 pub mod Conflicts
 pub mod Building
 pub mod Reading
+pub mod Overlaps

@@ -2,6 +2,7 @@
 #![tactic(auto)]
 
 mod answer;
+mod conflict;
 mod read;
 mod refusal;
 mod row;

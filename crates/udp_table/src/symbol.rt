@@ -89,7 +89,7 @@ impl NextState {
     }
 }
 
-fn differ(old: Tern, new: Tern) -> bool
+pub(crate) fn differ(old: Tern, new: Tern) -> bool
     ensures { result ≡ differ old new }
 {
     match (old, new) {
