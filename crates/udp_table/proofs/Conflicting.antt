@@ -169,13 +169,16 @@ edge_conflict n a b fits h =
     let levels = before.0 ++ new.0 ∷ after.0 in
     let place : get_or levels (length before.0) Unknown ≡ new.0 = get_or_at before.0 new.0 after.0 Unknown (length before.0) refl in
     let long : length levels ≡ length before.0 + suc (length after.0) = length-append before.0 (new.0 ∷ after.0) in
-    let same : length b.before ≡ length a.before = covers_all-long b.before before.0 before.3 ∙ before.1 in
-    (tt,
-    (case_of (length before.0) old.0 levels states.0,
-    (omega (arith, long, before.1, after.1, fits), omega (arith, long, before.1, after.1, fits), λ e. differ-apart old.0 new.0 (covers_change-differs a.edge old.0 new.0 edges.0) (e ∙ place)),
-    edge_matches a old.0 before.0 new.0 after.0 states.0 (sym before.1) edges.0 before.2 after.2 states.1,
-    edge_matches b old.0 before.0 new.0 after.0 states.0 (same ∙ sym before.1) edges.1 before.3 after.3 states.2,
-    states.3))
+    let same : length b.before ≡ length a.before = covers_all-long b.before before.0 before.3 ∙ before.1 in (
+      tt,
+      (
+        case_of (length before.0) old.0 levels states.0,
+        (omega (arith, long, before.1, after.1, fits), omega (arith, long, before.1, after.1, fits), λ e. differ-apart old.0 new.0 (covers_change-differs a.edge old.0 new.0 edges.0) (e ∙ place)),
+        edge_matches a old.0 before.0 new.0 after.0 states.0 (sym before.1) edges.0 before.2 after.2 states.1,
+        edge_matches b old.0 before.0 new.0 after.0 states.0 (same ∙ sym before.1) edges.1 before.3 after.3 states.2,
+        states.3,
+      ),
+    )
 
 -- ---- both directions
 

@@ -1,4 +1,6 @@
 pub mod Covers
 pub mod Grammar
+pub mod RowsOf
+pub mod FirstConflicts
 pub mod Conflicting
 pub mod Overlapping

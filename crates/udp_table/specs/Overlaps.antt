@@ -1,5 +1,5 @@
 -- What two rows have in common, as it is computed. `specs/Conflicts.antt` says what it means.
-use Rattle.std.specs.Prelude.{ℕ, ◌==◌, Bool, true, false, ◌&&◌, List, [], ◌∷◌, length}
+use Rattle.std.specs.Prelude.{◌≡◌, ℕ, ◌<◌, Bool, true, false, ◌&&◌, List, [], ◌∷◌, length, slice_index_or, Option, Some, None}
 use Rattle.std.specs.List.{list_any}
 use Rattle.tern_core.specs.declared.tern.Tern.{Tern}
 use Rattle.tern_core.specs.declared.tern.Tern.TheVariants.{Zero, One, Unknown}
@@ -49,3 +49,15 @@ rows_conflict (Level a) (Level b) = level_rows_conflict a b
 rows_conflict (Edge a) (Edge b) = edge_rows_conflict a b
 rows_conflict (Level a) (Edge b) = false
 rows_conflict (Edge a) (Level b) = false
+
+-- the rows at two places conflict
+abbrev pub AreFound : List Row → ℕ → ℕ → Type 0
+AreFound rows i j = (d : Row) → rows_conflict (slice_index_or rows i d) (slice_index_or rows j d) ≡ true
+
+-- those from a place on up to another don't conflict with the row before them
+abbrev pub NoneFound : List Row → ℕ → ℕ → Type 0
+NoneFound rows i high = (j : ℕ) → i < j → j < high → (d : Row) → rows_conflict (slice_index_or rows i d) (slice_index_or rows j d) ≡ false
+
+abbrev pub FindsPartner : List Row → ℕ → Option ℕ → Type 0
+FindsPartner rows i None = NoneFound rows i (length rows)
+FindsPartner rows i (Some j) = (i < j) × (j < length rows) × AreFound rows i j × NoneFound rows i j

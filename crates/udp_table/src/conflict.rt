@@ -1,5 +1,7 @@
-ghost use Rattle.std.specs.Prelude.{◌≡◌};
-ghost use Rattle.udp_table.specs.Overlaps.{overlap, overlap_from, edges_overlap, disagree, all_overlap, level_rows_conflict, edge_rows_conflict, rows_conflict};
+ghost use Rattle.std.specs.Prelude.{◌≡◌, ◌<◌, length, All, MatchOption};
+ghost use Rattle.udp_table.specs.Letters.{Fits};
+ghost use Rattle.udp_table.specs.Conflicts.{HasNoConflict, IsFirstConflict};
+ghost use Rattle.udp_table.specs.Overlaps.{overlap, overlap_from, edges_overlap, disagree, all_overlap, level_rows_conflict, edge_rows_conflict, rows_conflict, FindsPartner};
 
 use crate::row::{EdgeRow, LevelRow, Row};
 use crate::symbol::{EdgeSymbol, LevelSymbol, NextState, differ};
@@ -97,4 +99,39 @@ impl Row {
             _ => false,
         }
     }
+}
+
+/// The first row behind this place that conflicts with the row there.
+fn conflict_behind(rows: &[Row], place: usize) -> Option<usize>
+    requires { place < length rows.now }
+    ensures { FindsPartner rows.now place result }
+{
+    let row = &rows[place];
+    for other in place + 1..rows.len() {
+        if row.conflicts(&rows[other]) {
+            return Some(other);
+        }
+    }
+    None
+}
+
+/// The first two rows that conflict, by the first and then by the second.
+pub(crate) fn first_conflict(
+    sequential: bool,
+    inputs: usize,
+    rows: &[Row],
+) -> Option<(usize, usize)>
+    requires { All (Fits sequential inputs) rows.now }
+    ensures { MatchOption result (HasNoConflict sequential inputs rows.now)
+        (λ pair. IsFirstConflict sequential inputs rows.now pair.0 pair.1) }
+{
+    if sequential && inputs == 0 {
+        return None;
+    }
+    for place in 0..rows.len() {
+        if let Some(other) = conflict_behind(rows, place) {
+            return Some((place, other));
+        }
+    }
+    None
 }

@@ -1,11 +1,16 @@
-ghost use Rattle.std.specs.Prelude.{◌≡◌, ◌<◌, ◌^◌, length, IfOk};
+ghost use Rattle.std.specs.Prelude.{◌≡◌, ◌<◌, ◌≤◌, ◌^◌, length, IfOk, IfErr, MatchOption};
+ghost use Rattle.std.specs.Str.{str_to_ascii_lowercase};
+ghost use Rattle.udp_table.specs.Letters.{IsRow};
+ghost use Rattle.udp_table.specs.Building.{number_at, AreRowsOf, IsRefused};
 ghost use Rattle.udp_table.specs.Reading.{value_at, level_at, next_at, edge_at, levels_in, after_levels, Finds, between_in, edge_in, ending_in, edge_row_in, row_in};
 
+use crate::refusal::UdpRefusal;
 use crate::row::{EdgeRow, LevelRow, Row};
 use crate::symbol::{EdgeSymbol, LevelSymbol, NextState};
 use std::alloc::Global;
 use tern_core::Tern;
 use text_scan::{Items, NoMemory};
+use verilog_source::UdpText;
 
 fn value(letter: u8) -> Option<Tern>
     ensures { result ≡ value_at letter }
@@ -135,7 +140,7 @@ fn edge_row(
 }
 
 /// The row that the letters are, all in lower case.
-pub(crate) fn row(
+fn row(
     alloc: Global,
     sequential: bool,
     inputs: usize,
@@ -155,4 +160,58 @@ pub(crate) fn row(
         None if sequential => edge_row(alloc, inputs, levels, rest),
         _ => Ok(None),
     }
+}
+
+fn lowercase(alloc: Global, bytes: &[u8]) -> Result<Vec<u8>, NoMemory>
+    ensures { IfOk result (λ letters. letters.items ≡ str_to_ascii_lowercase bytes.now) }
+{
+    Ok(
+        bytes
+            .iter()
+            .map(|byte| byte.to_ascii_lowercase())
+            .collect(alloc)?,
+    )
+}
+
+/// The row that the bytes are, whichever case their letters have, or none.
+fn row_of(
+    alloc: Global,
+    sequential: bool,
+    inputs: usize,
+    bytes: &[u8],
+) -> Result<Option<Row>, NoMemory>
+    ensures { IfOk result (λ found. MatchOption found
+        ((row : Row) → IsRow sequential inputs bytes.now row → ⊥)
+        (IsRow sequential inputs bytes.now)) }
+{
+    let letters = lowercase(alloc, bytes)?;
+    row(alloc, sequential, inputs, &letters)
+}
+
+/// How a report counts the row at this place.
+pub(crate) fn row_number(place: usize) -> u32
+    ensures { result ≡ number_at place }
+{
+    u32::try_from(place).map_or(u32::MAX, |place| place.saturating_add(1))
+}
+
+/// The rows of a primitive's text, or the first that is none.
+pub(crate) fn rows(alloc: Global, text: &UdpText) -> Result<Items<Row>, UdpRefusal>
+    requires { text.now.inputs ≤ 10 }
+    ensures ok { IfOk result (AreRowsOf text.now) }
+    ensures err { IfErr result (IsRefused text.now) }
+{
+    let mut rows = Items::new(alloc);
+    for (place, bytes) in text.rows.as_slice().iter().enumerate() {
+        match row_of(
+            alloc,
+            text.sequential,
+            text.inputs as usize,
+            bytes.as_bytes(),
+        )? {
+            Some(row) => rows.push(row)?,
+            None => return Err(UdpRefusal::BadRow(row_number(place))),
+        }
+    }
+    Ok(rows)
 }

@@ -13,6 +13,11 @@ pub enum UdpRefusal {
 }
 
 impl From<NoMemory> for UdpRefusal {
+    ghost use Rattle.std.specs.Prelude.{◌≡◌};
+    ghost use Rattle.udp_table.specs.declared.refusal.UdpRefusal.TheVariants.{NoMemory as refused};
+
+    ghost from_gives = { λ _ e. e ≡ refused };
+
     fn from(_: NoMemory) -> Self {
         UdpRefusal::NoMemory
     }
