@@ -6,7 +6,7 @@ use Rattle.std.proofs.lemmas.Slice.Zip.{all_zipped_more}
 use Rattle.std.proofs.lemmas.List.{take_more, get_or_read, get_or-take, length-take-le}
 use Rattle.verilog_source.specs.declared.primitive.UdpText.{UdpText}
 use Rattle.udp_table.specs.declared.row.Row.{Row}
-use Rattle.udp_table.specs.Letters.{IsRow}
+use Rattle.udp_table.specs.Letters.{Fits, IsRow}
 use Rattle.udp_table.specs.Building.{IsGoodRow, IsFirstBadRow, number_at}
 use Rattle.udp_table.specs.Reading.{row_in}
 use Rattle.udp_table.proofs.Grammar.{row_in-sound, row_in-letters}
@@ -46,3 +46,9 @@ one_more text place rows more found row bytes item inside some is p q m all =
     take_more text.rows place item inside ∙ ap (λ t. take place text.rows ++ t ∷ []) (sym q) in
     rw (longer, m)
     (all_zipped_more (IsRow text.sequential text.inputs) (take place text.rows) rows item row all (subst (λ b. IsRow text.sequential text.inputs b row) p here))
+
+pub all_fit : (q : Bool) (n : ℕ) (texts : List (List ℕ)) (rows : List Row) → AllZip (IsRow q n) texts rows → (k : ℕ) (d : Row) → k < length rows → Fits q n (get_or rows k d)
+all_fit q n texts [] all k d h = absurd (omega arith)
+all_fit q n [] (row ∷ rows) all k d h = absurd all
+all_fit q n (t ∷ texts) (row ∷ rows) all zero d h = all.0.0
+all_fit q n (t ∷ texts) (row ∷ rows) all (suc k) d h = all_fit q n texts rows all.1 k d (omega arith)

@@ -7,7 +7,9 @@ mod read;
 mod refusal;
 mod row;
 mod symbol;
+mod udp;
 
 pub use refusal::UdpRefusal;
 pub use row::{EdgeRow, LevelRow, Row};
 pub use symbol::{EdgeSymbol, LevelSymbol, NextState};
+pub use udp::{Udp, build};
