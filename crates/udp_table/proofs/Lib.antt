@@ -1,5 +1,6 @@
 pub mod Covers
 pub mod Grammar
+pub mod Levels
 pub mod RowsOf
 pub mod FirstConflicts
 pub mod Conflicting

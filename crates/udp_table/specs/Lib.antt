@@ -7,3 +7,5 @@ pub mod Conflicts
 pub mod Building
 pub mod Reading
 pub mod Overlaps
+pub mod Orders
+pub mod Subsets

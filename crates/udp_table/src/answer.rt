@@ -1,6 +1,6 @@
 ghost use Rattle.std.specs.Prelude.{◌≡◌, ◌<◌, length};
 ghost use Rattle.udp_table.specs.Rows.{case_of, level_row_matches, edge_row_matches};
-ghost use Rattle.udp_table.specs.Answers.{level_answer, edge_answer};
+ghost use Rattle.udp_table.specs.Answers.{level_answer, edge_answer, answer_of};
 
 use crate::row::{EdgeRow, LevelRow, Row};
 use crate::symbol::cover;
@@ -42,13 +42,7 @@ pub(crate) fn by_level(rows: &[Row], levels: &[Tern], state: Tern) -> Option<Ter
 }
 
 /// What the first edge row that matches gives.
-pub(crate) fn by_edge(
-    rows: &[Row],
-    input: usize,
-    old: Tern,
-    levels: &[Tern],
-    state: Tern,
-) -> Option<Tern>
+fn by_edge(rows: &[Row], input: usize, old: Tern, levels: &[Tern], state: Tern) -> Option<Tern>
     requires { input < length levels.now }
     ensures { result ≡ edge_answer rows.now (case_of input old levels.now state) }
 {
@@ -60,4 +54,14 @@ pub(crate) fn by_edge(
         }
     }
     None
+}
+
+/// The new state of a sequential primitive with these rows after a change of one input.
+pub(crate) fn answer(rows: &[Row], input: usize, old: Tern, levels: &[Tern], state: Tern) -> Tern
+    requires { input < length levels.now }
+    ensures { result ≡ answer_of rows.now (case_of input old levels.now state) }
+{
+    by_level(rows, levels, state)
+        .or_else(|| by_edge(rows, input, old, levels, state))
+        .unwrap_or(Tern::Unknown)
 }

@@ -3,9 +3,11 @@
 
 mod answer;
 mod conflict;
+mod order;
 mod read;
 mod refusal;
 mod row;
+mod states;
 mod symbol;
 mod udp;
 

@@ -4,7 +4,7 @@ ghost use Rattle.udp_table.specs.Rows.{case_of};
 ghost use Rattle.udp_table.specs.Answers.{level_of, answer_of};
 ghost use Rattle.udp_table.specs.Building.{IsBuilt, IsRefused};
 
-use crate::answer::{by_edge, by_level};
+use crate::answer::{answer, by_level};
 use crate::conflict::first_conflict;
 use crate::read::{row_number, rows};
 use crate::refusal::UdpRefusal;
@@ -103,8 +103,6 @@ impl Udp {
         ensures { result ≡ answer_of self.now.rows (case_of input old levels.now state) }
     {
         prove!(levels[input] == new);
-        by_level(self.rows.as_slice(), levels, state)
-            .or_else(|| by_edge(self.rows.as_slice(), input, old, levels, state))
-            .unwrap_or(Tern::Unknown)
+        answer(self.rows.as_slice(), input, old, levels, state)
     }
 }

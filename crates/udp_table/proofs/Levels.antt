@@ -1,0 +1,43 @@
+-- Subsets by number, and the levels where their inputs have new values.
+use Rattle.std.proofs.Common.{◌≡◌, ℕ, zero, suc, ◌+◌, ◌-◌, ◌*◌, ◌/◌, ◌%◌, ◌^◌, ◌<◌, ◌≤◌, Bool, true, false, cond, eqb, List, [], ◌∷◌, length, get_or, set, take, drop, refl, ap, sym, ◌∙◌, subst, arith}
+use Rattle.std.proofs.Math.Nat.{div-div-eq-div-mul, pow-suc}
+use Rattle.std.proofs.Math.Numerals.{add-one}
+use Rattle.std.proofs.lemmas.List.{drop_more, get_or_read}
+use Rattle.tern_core.specs.declared.tern.Tern.{Tern}
+use Rattle.tern_core.specs.declared.tern.Tern.TheVariants.{Unknown}
+use Rattle.udp_table.specs.Subsets.{members, levels_after}
+
+pub half : (m i : ℕ) → m / 2 ^ i / 2 ≡ m / 2 ^ (i + 1)
+half m i = div-div-eq-div-mul m (2 ^ i) 2 ∙ ap (λ n. m / n) (sym (ap (λ k. 2 ^ k) (add-one i) ∙ pow-suc 2 i))
+
+take_set : {X : Type 0} (n : ℕ) (xs : List X) (i : ℕ) (x : X) → take n (set xs i x) ≡ set (take n xs) i x
+take_set zero xs i x = refl
+take_set (suc n) [] i x = refl
+take_set (suc n) (y ∷ ys) zero x = refl
+take_set (suc n) (y ∷ ys) (suc i) x = ap (λ zs. y ∷ zs) (take_set n ys i x)
+
+-- the first of the elements that are left is in the subset, or it isn't
+pub members-in : (xs : List ℕ) (m i x : ℕ) → i < length xs → x ≡ get_or xs i x → eqb (m / 2 ^ i % 2) 1 ≡ true → members (drop i xs) (m / 2 ^ i) ≡ x ∷ members (drop (i + 1) xs) (m / 2 ^ (i + 1))
+members-in xs m i x h p odd =
+    let rest = drop (i + 1) xs in
+    ap (λ ys. members ys (m / 2 ^ i)) (drop_more xs i x h ∙ ap (λ y. y ∷ rest) (sym p))
+    ∙ ap (λ b. cond b (x ∷ members rest (m / 2 ^ i / 2)) (members rest (m / 2 ^ i / 2))) odd
+    ∙ ap (λ q. x ∷ members rest q) (half m i)
+
+pub members-out : (xs : List ℕ) (m i x : ℕ) → i < length xs → x ≡ get_or xs i x → eqb (m / 2 ^ i % 2) 1 ≡ false → members (drop i xs) (m / 2 ^ i) ≡ members (drop (i + 1) xs) (m / 2 ^ (i + 1))
+members-out xs m i x h p even =
+    let rest = drop (i + 1) xs in
+    ap (λ ys. members ys (m / 2 ^ i)) (drop_more xs i x h ∙ ap (λ y. y ∷ rest) (sym p))
+    ∙ ap (λ b. cond b (x ∷ members rest (m / 2 ^ i / 2)) (members rest (m / 2 ^ i / 2))) even
+    ∙ ap (members rest) (half m i)
+
+-- one place on: the input takes its new value, or it keeps the old one
+pub levels_in : (n m i : ℕ) (xs : List ℕ) (new levels : List Tern) (x : ℕ) (v : Tern) → i < length xs → x ≡ get_or xs i x → eqb (m / 2 ^ i % 2) 1 ≡ true → v ≡ get_or new x Unknown → levels_after (members (drop (i + 1) xs) (m / 2 ^ (i + 1))) new (take n (set levels x v)) ≡ levels_after (members (drop i xs) (m / 2 ^ i)) new (take n levels)
+levels_in n m i xs new levels x v h p odd w =
+    let rest = members (drop (i + 1) xs) (m / 2 ^ (i + 1)) in
+    ap (levels_after rest new) (take_set n levels x v ∙ ap (set (take n levels) x) w)
+    ∙ ap (λ ys. levels_after ys new (take n levels)) (sym (members-in xs m i x h p odd))
+
+pub levels_out : (n m i : ℕ) (xs : List ℕ) (new levels : List Tern) (x : ℕ) → i < length xs → x ≡ get_or xs i x → eqb (m / 2 ^ i % 2) 1 ≡ false → levels_after (members (drop (i + 1) xs) (m / 2 ^ (i + 1))) new (take n levels) ≡ levels_after (members (drop i xs) (m / 2 ^ i)) new (take n levels)
+levels_out n m i xs new levels x h p even =
+    ap (λ ys. levels_after ys new (take n levels)) (sym (members-out xs m i x h p even))
