@@ -1,5 +1,8 @@
 pub mod Covers
 pub mod Grammar
+pub mod Reaching
+pub mod Subsets
+pub mod Orders
 pub mod Levels
 pub mod RowsOf
 pub mod FirstConflicts

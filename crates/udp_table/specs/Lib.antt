@@ -9,3 +9,4 @@ pub mod Reading
 pub mod Overlaps
 pub mod Orders
 pub mod Subsets
+pub mod Reached
