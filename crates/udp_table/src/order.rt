@@ -56,3 +56,59 @@ fn levels(subset: usize, changed: &[usize], old: &[Tern], new: &[Tern]) -> [Tern
     }
     levels
 }
+
+/// What this state changes to, if it is in the set.
+fn next_from(
+    rows: &[Row],
+    input: usize,
+    old: Tern,
+    levels: &[Tern],
+    states: States,
+    state: Tern,
+) -> States
+    requires { input < length levels.now }
+    ensures { result ≡ next_from rows.now input old levels.now states state }
+{
+    if states.has(state) {
+        States::only(answer(rows, input, old, levels, state))
+    } else {
+        States::none()
+    }
+}
+
+/// What the states of the set change to.
+fn next_states(rows: &[Row], input: usize, old: Tern, levels: &[Tern], states: States) -> States
+    requires { input < length levels.now }
+    ensures { result ≡ next_states rows.now input old levels.now states }
+{
+    let zero = next_from(rows, input, old, levels, states, Tern::Zero);
+    let one = next_from(rows, input, old, levels, states, Tern::One);
+    let unknown = next_from(rows, input, old, levels, states, Tern::Unknown);
+    zero.union(one.union(unknown))
+}
+
+/// The states that the orders of a subset end in: one of its inputs changes last, after the others,
+/// whose states stand at the place of the subset without it.
+fn reached(
+    rows: &[Row],
+    subset: usize,
+    changed: &[usize],
+    old: &[Tern],
+    levels: &[Tern],
+    places: &[States],
+) -> States
+    requires small { length changed.now ≤ 10 }
+    requires inputs { All (λ input. input < length old.now) changed.now }
+    requires same { length levels.now ≡ length old.now }
+    requires room { subset < length places.now }
+    ensures { result ≡ gathered rows.now old.now levels.now places.now subset changed.now subset 1 none }
+{
+    let mut reached = States::none();
+    for (place, input) in changed.iter().enumerate() {
+        if holds(subset, place) {
+            let before = places[subset - (1 << place)];
+            reached = reached.union(next_states(rows, *input, old[*input], levels, before));
+        }
+    }
+    reached
+}
