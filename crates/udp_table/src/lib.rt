@@ -11,6 +11,7 @@ mod states;
 mod symbol;
 mod udp;
 
+pub use order::OrderRoom;
 pub use refusal::UdpRefusal;
 pub use row::{EdgeRow, LevelRow, Row};
 pub use symbol::{EdgeSymbol, LevelSymbol, NextState};

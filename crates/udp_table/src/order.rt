@@ -1,5 +1,6 @@
-ghost use Rattle.std.specs.Prelude.{◌≡◌, ◌≤◌, ◌<◌, ◌^◌, ◌*◌, ◌/◌, ◌%◌, ◌==◌, All, length, take};
-ghost use Rattle.udp_table.specs.Orders.{changed_inputs};
+ghost use Rattle.std.specs.Prelude.{◌≡◌, ◌≤◌, ◌<◌, ◌^◌, ◌*◌, ◌/◌, ◌%◌, ◌==◌, ℕ, All, length, take};
+ghost use Rattle.udp_table.specs.Orders.{changed_inputs, change_of};
+ghost use Rattle.udp_table.specs.Reached.{times, AreEndsBelow};
 ghost use Rattle.udp_table.specs.Subsets.{none, members, levels_after, next_from, next_states, gathered};
 
 use crate::answer::answer;
@@ -14,10 +15,48 @@ const WIDTH: usize = 10;
 /// The number of subsets of so many inputs.
 const SUBSETS: usize = 1024;
 
+/// Room for `Udp::change`. It takes no memory, and what it holds between two calls is of no matter.
+#[derive(Debug, Drop)]
+pub struct OrderRoom {
+    /// The inputs that change, least first.
+    changed: [usize; WIDTH],
+    /// For each subset of them the states in which its orders end. The lowest bit of a subset's
+    /// number tells of the first of the inputs.
+    places: [States; SUBSETS],
+}
+
+impl OrderRoom {
+    pub fn new() -> OrderRoom {
+        OrderRoom {
+            changed: [0; WIDTH],
+            places: [States::none(); SUBSETS],
+        }
+    }
+
+    /// The common value of the states in which the orders of the inputs that differ end.
+    pub(crate) fn common_end(
+        &mut self,
+        rows: &[Row],
+        old: &[Tern],
+        new: &[Tern],
+        state: Tern,
+    ) -> Tern
+        requires same { length old.now ≡ length new.now }
+        requires few { length old.now ≤ 10 }
+        ensures { result ≡ change_of rows.now old.now new.now state }
+    {
+        let count = changed(old, new, &mut self.changed);
+        let inputs = &self.changed[..count];
+        fill(rows, inputs, old, new, state, &mut self.places);
+        self.places[(1 << count) - 1].common()
+    }
+}
+
 /// The inputs that differ, least first, and their number.
 fn changed(old: &[Tern], new: &[Tern], changed: &mut [usize; WIDTH]) -> usize
     requires same { length old.now ≡ length new.now }
     requires few { length old.now ≤ 10 }
+    ensures room { length changed.new ≡ 10 }
     ensures number { result ≤ 10 }
     ensures inputs { take result changed.new ≡ changed_inputs old.now new.now }
 {
@@ -111,4 +150,29 @@ fn reached(
         }
     }
     reached
+}
+
+/// For each subset of the inputs that change, the states in which its orders end.
+fn fill(
+    rows: &[Row],
+    changed: &[usize],
+    old: &[Tern],
+    new: &[Tern],
+    state: Tern,
+    places: &mut [States; SUBSETS],
+)
+    requires same { length old.now ≡ length new.now }
+    requires few { length old.now ≤ 10 }
+    requires small { length changed.now ≤ 10 }
+    requires inputs { All (λ input. input < length old.now) changed.now }
+    requires once { (input : ℕ) → times input changed.now ≤ 1 }
+    ensures room { length places.new ≡ 1024 }
+    ensures ends { AreEndsBelow rows.now old.now new.now state changed.now places.new (2 ^ length changed.now) }
+{
+    places[0] = States::only(state);
+    for subset in 1..1 << changed.len() {
+        let levels = levels(subset, changed, old, new);
+        let levels = &levels[..old.len()];
+        places[subset] = reached(rows, subset, changed, old, levels, places);
+    }
 }

@@ -2,10 +2,12 @@ ghost use Rattle.std.specs.Prelude.{◌≡◌, ◌≢◌, ◌<◌, ◌≤◌, Is
 ghost use Rattle.std.specs.List.{slice_get};
 ghost use Rattle.udp_table.specs.Rows.{case_of};
 ghost use Rattle.udp_table.specs.Answers.{level_of, answer_of};
+ghost use Rattle.udp_table.specs.Orders.{change_of};
 ghost use Rattle.udp_table.specs.Building.{IsBuilt, IsRefused};
 
 use crate::answer::{answer, by_level};
 use crate::conflict::first_conflict;
+use crate::order::OrderRoom;
 use crate::read::{row_number, rows};
 use crate::refusal::UdpRefusal;
 use crate::row::Row;
@@ -104,5 +106,17 @@ impl Udp {
     {
         prove!(levels[input] == new);
         answer(self.rows.as_slice(), input, old, levels, state)
+    }
+
+    /// The new state of a sequential primitive after its inputs have changed from `old` to `new`, in
+    /// whichever order: the state in which all orders end, and X where two of them end in different
+    /// states. Where no input has changed it is the state.
+    pub fn change(&self, old: &[Tern], new: &[Tern], state: Tern, room: &mut OrderRoom) -> Tern
+        requires sequential { self.now.sequential ≡ true }
+        requires old_levels { length old.now ≡ self.now.inputs }
+        requires new_levels { length new.now ≡ self.now.inputs }
+        ensures { result ≡ change_of self.now.rows old.now new.now state }
+    {
+        room.common_end(self.rows.as_slice(), old, new, state)
     }
 }
