@@ -1,7 +1,7 @@
 -- The common value of the ends of all orders, from the set of these ends.
-use Rattle.std.proofs.Common.{◌≡◌, ◌≢◌, ◌↔◌, ℕ, zero, suc, ◌+◌, ◌-◌, ◌^◌, ◌<◌, ◌≤◌, Bool, true, false, cond, eqb, List, [], ◌∷◌, map, length, get_or, All, refl, ap, sym, ◌∙◌, subst, ◌⊎◌, inl, inr, ⊎_elim, arith, eq-eqb}
+use Rattle.std.proofs.Common.{◌≡◌, ◌≢◌, ◌↔◌, ℕ, zero, suc, ◌+◌, ◌-◌, ◌^◌, ◌<◌, ◌≤◌, Bool, true, false, cond, eqb, List, [], ◌∷◌, map, length, get_or, All, Contains, refl, ap, sym, ◌∙◌, subst, ◌⊎◌, inl, inr, ⊎_elim, arith, eq-eqb}
 use Rattle.std.proofs.lemmas.Bool.{cases_eq, cases_lt, ne_eqb}
-use Rattle.std.proofs.lemmas.List.Elements.{All-head, All-tail}
+use Rattle.std.proofs.lemmas.List.Elements.{All-head, All-tail, All-contains}
 use Rattle.tern_core.specs.declared.tern.Tern.{Tern}
 use Rattle.tern_core.specs.declared.tern.Tern.TheVariants.{Zero, One, Unknown}
 use Rattle.tern_core.specs.Values.{common_of, common_of_all}
@@ -172,3 +172,30 @@ stands (x ∷ xs) (suc k) d h =
 -- what holds of each element that stands in a list holds of all
 pub passes-listed : (P : ℕ → Type 0) (xs : List ℕ) → ((w : ℕ) → 0 < times w xs → P w) → All P xs
 passes-listed P xs h k d inside = h (get_or xs k d) (stands xs k d inside)
+
+-- ---- the common end by places
+
+among_at : {X : Type 0} (x : X) (xs : List X) (k : ℕ) → k < length xs → get_or xs k x ≡ x → Among x xs
+among_at x [] k h e = absurd (omega arith)
+among_at x (y ∷ ys) zero h e = inl (sym e)
+among_at x (y ∷ ys) (suc k) h e = inr (among_at x ys k (omega arith) e)
+
+pub among_contains : {X : Type 0} (x : X) (xs : List X) → Contains xs x → Among x xs
+among_contains x xs h = among_at x xs h.0 h.1 h.2
+
+pub contains_among : {X : Type 0} (x : X) (xs : List X) → Among x xs → Contains xs x
+contains_among x [] h = absurd h
+contains_among x (y ∷ ys) (inl e) = (0, omega arith, sym e)
+contains_among x (y ∷ ys) (inr h) = let r = contains_among x ys h in (suc r.0, omega (arith, r.1), r.2)
+
+one_end : (rows : List Row) (old new : List Tern) (state : Tern) → Among (state_after rows new (changed_inputs old new) old state) (ends_of rows old new state)
+one_end rows old new state = ends-listed rows old new state (state_after rows new (changed_inputs old new) old state) (changed_inputs old new, λ w. refl, refl)
+
+pub same_ends : (rows : List Row) (old new : List Tern) (state end : Tern) → All (λ other. other ≡ end) (ends_of rows old new state) → change_of rows old new state ≡ end
+same_ends rows old new state end all =
+    one_alone end (ends_of rows old new state) (state_after rows new (changed_inputs old new) old state) (one_end rows old new state)
+    (λ w k. All-contains (λ other. other ≡ end) (ends_of rows old new state) w all (contains_among w (ends_of rows old new state) k))
+
+pub different_ends : (rows : List Row) (old new : List Tern) (state one other : Tern) → Contains (ends_of rows old new state) one → Contains (ends_of rows old new state) other → one ≢ other → change_of rows old new state ≡ Unknown
+different_ends rows old new state one other p q apart =
+    mixed (ends_of rows old new state) one other (among_contains one (ends_of rows old new state) p) (among_contains other (ends_of rows old new state) q) apart

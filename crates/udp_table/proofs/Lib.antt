@@ -1,5 +1,6 @@
 pub mod Covers
 pub mod Grammar
+pub mod Decisions
 pub mod Filling
 pub mod Commons
 pub mod Reaching

@@ -2,6 +2,9 @@
 use Rattle.std.proofs.Common.{◌≡◌, ◌≢◌, ℕ, zero, suc, ◌+◌, ◌<◌, ◌≤◌, Bool, true, false, cond, eqb, List, [], ◌∷◌, ◌++◌, map, length, refl, ap, sym, ◌∙◌, subst, ◌⊎◌, inl, inr, ⊎_elim, arith, eq-eqb}
 use Rattle.std.proofs.lemmas.Bool.{cases_eq, eqb-true, ne_eqb}
 use Rattle.std.specs.List.{flat_map}
+use Rattle.std.specs.List.Sorted.{IsPermutation}
+use Rattle.std.proofs.lemmas.List.Recursion.{is_sum_by}
+use Rattle.std.proofs.lemmas.List.Sorted.{IsPermutation-refl, IsPermutation-trans, IsPermutation-cons, IsPermutation-middle, sum_by-IsPermutation}
 use Rattle.udp_table.specs.Orders.{insertions, orders_of}
 use Rattle.udp_table.specs.Reached.{times, IsOrderOf}
 
@@ -109,3 +112,27 @@ is-listed (x ∷ xs) order h =
     let rest : IsOrderOf xs (front ++ back) = λ w. omega (arith, h w, ap (times w) cut.1.1, times-cut w x front back) in
     among_flat_map (insertions x) order (front ++ back) (orders_of xs) (is-listed xs (front ++ back) rest)
     (subst (λ zs. Among zs (insertions x (front ++ back))) (sym cut.1.1) (inserted x front back))
+
+-- ---- orders as permutations
+
+insertion-permutes : (x : ℕ) (ys zs : List ℕ) → Among zs (insertions x ys) → IsPermutation (x ∷ ys) zs
+insertion-permutes x [] zs (inl e) = subst (IsPermutation (x ∷ [])) (sym e) (IsPermutation-refl (x ∷ []))
+insertion-permutes x [] zs (inr h) = absurd h
+insertion-permutes x (y ∷ ys) zs (inl e) = subst (IsPermutation (x ∷ y ∷ ys)) (sym e) (IsPermutation-refl (x ∷ y ∷ ys))
+insertion-permutes x (y ∷ ys) zs (inr h) =
+    let r = among_map-from (λ us. y ∷ us) zs (insertions x ys) h in
+    subst (IsPermutation (x ∷ y ∷ ys)) (sym r.2)
+    (IsPermutation-trans (x ∷ y ∷ ys) (y ∷ x ∷ ys) (y ∷ r.0) (IsPermutation-middle (x ∷ []) y ys) (IsPermutation-cons y (x ∷ ys) r.0 (insertion-permutes x ys r.0 r.1)))
+
+pub listed-permutes : (xs order : List ℕ) → Among order (orders_of xs) → IsPermutation xs order
+listed-permutes [] order (inl e) = subst (IsPermutation []) (sym e) (IsPermutation-refl [])
+listed-permutes [] order (inr h) = absurd h
+listed-permutes (x ∷ xs) order h =
+    let r = among_flat_map-from (insertions x) order (orders_of xs) h in
+    IsPermutation-trans (x ∷ xs) (x ∷ r.0) order (IsPermutation-cons x xs r.0 (listed-permutes xs r.0 r.1)) (insertion-permutes x r.0 order r.2)
+
+pub permutes-listed : (xs order : List ℕ) → IsPermutation xs order → Among order (orders_of xs)
+permutes-listed xs order h =
+    is-listed xs order (λ w.
+    let one : ℕ → ℕ = λ y. cond (eqb w y) 1 0 in
+    is_sum_by (times w) one refl (λ _ _. refl) order ∙ sum_by-IsPermutation one xs order h ∙ sym (is_sum_by (times w) one refl (λ _ _. refl) xs))

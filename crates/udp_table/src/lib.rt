@@ -3,6 +3,7 @@
 
 mod answer;
 mod conflict;
+pub mod laws;
 mod order;
 mod read;
 mod refusal;
