@@ -17,3 +17,6 @@ pub use refusal::UdpRefusal;
 pub use row::{EdgeRow, LevelRow, Row};
 pub use symbol::{EdgeSymbol, LevelSymbol, NextState};
 pub use udp::{Udp, build};
+
+#[cfg(test)]
+mod tests;
