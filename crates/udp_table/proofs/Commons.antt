@@ -1,5 +1,5 @@
 -- The common value of the ends of all orders, from the set of these ends.
-use Rattle.std.proofs.Common.{◌≡◌, ◌≢◌, ◌↔◌, ℕ, zero, suc, ◌+◌, ◌-◌, ◌^◌, ◌<◌, ◌≤◌, Bool, true, false, cond, eqb, List, [], ◌∷◌, map, length, get_or, All, Contains, refl, ap, sym, ◌∙◌, subst, ◌⊎◌, inl, inr, ⊎_elim, arith, eq-eqb}
+use Rattle.std.proofs.Common.{◌≡◌, ◌≢◌, ◌↔◌, ℕ, zero, suc, ◌+◌, ◌<◌, ◌≤◌, Bool, true, false, cond, List, [], ◌∷◌, length, get_or, All, Contains, refl, ap, sym, ◌∙◌, subst, inl, inr, ⊎_elim, arith, eq-eqb}
 use Rattle.std.proofs.lemmas.Bool.{cases_eq, cases_lt, ne_eqb}
 use Rattle.std.proofs.lemmas.List.Elements.{All-head, All-tail, All-contains}
 use Rattle.tern_core.specs.declared.tern.Tern.{Tern}
@@ -9,8 +9,8 @@ use Rattle.udp_table.specs.declared.states.States.{States}
 use Rattle.udp_table.specs.declared.row.Row.{Row}
 use Rattle.udp_table.specs.Symbols.{differ}
 use Rattle.udp_table.specs.Orders.{changed_from, changed_inputs, orders_of, state_after, ends_of, change_of}
-use Rattle.udp_table.specs.Subsets.{has, none, members, common_by, common_state}
-use Rattle.udp_table.specs.Reached.{times, IsOrderOf, EndsIn, AreEnds}
+use Rattle.udp_table.specs.Subsets.{has, common_by, common_state}
+use Rattle.udp_table.specs.Reached.{times, EndsIn, AreEnds}
 use Rattle.udp_table.proofs.Orders.{Among, among_map, among_map-from, listed-is, is-listed, times-same}
 
 -- ---- the common value of a list

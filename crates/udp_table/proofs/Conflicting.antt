@@ -1,8 +1,7 @@
 -- The rows that are found to conflict are those that match one case with different values.
-use Rattle.std.proofs.Common.{◌≡◌, ◌≢◌, ℕ, suc, ◌+◌, ◌<◌, ◌≤◌, Bool, true, false, ◌&&◌, ◌||◌, eqb, List, [], ◌∷◌, ◌++◌, length, get_or, take, drop, refl, ap, sym, ◌∙◌, subst, ◌⊎◌, inl, inr, ⊎_elim, arith, eq-eqb}
+use Rattle.std.proofs.Common.{◌≡◌, ◌≢◌, ℕ, suc, ◌+◌, ◌<◌, Bool, true, false, ◌&&◌, ◌||◌, eqb, List, [], ◌∷◌, ◌++◌, length, get_or, take, drop, refl, ap, sym, ◌∙◌, ⊎_elim, arith, eq-eqb}
 use Rattle.std.proofs.lemmas.Bool.{and_parts, and_from, or_cases, or_left, or_right, eqb-true}
 use Rattle.std.proofs.lemmas.List.{get_or_at, take_at, drop_at, append_assoc, length-append, length_push}
-use Rattle.std.specs.List.{list_any}
 use Rattle.tern_core.specs.declared.tern.Tern.{Tern}
 use Rattle.tern_core.specs.declared.tern.Tern.TheVariants.{Zero, One, Unknown}
 use Rattle.udp_table.specs.declared.symbol.LevelSymbol.{LevelSymbol}
@@ -14,7 +13,7 @@ use Rattle.udp_table.specs.declared.row.EdgeRow.{EdgeRow}
 use Rattle.udp_table.specs.declared.row.Row.{Row}
 use Rattle.udp_table.specs.declared.row.Row.TheVariants.{Level, Edge}
 use Rattle.udp_table.specs.Symbols.{covers, covers_all, covers_change, differ, next_value}
-use Rattle.udp_table.specs.Rows.{Case, case_of, new_of, matches, value_in, edge_row_matches}
+use Rattle.udp_table.specs.Rows.{Case, case_of, new_of, edge_row_matches}
 use Rattle.udp_table.specs.Conflicts.{IsCase, Conflict}
 use Rattle.udp_table.specs.Letters.{Fits}
 use Rattle.udp_table.proofs.Covers.{covers_all-long}

@@ -1,5 +1,5 @@
 -- Which row decides, and that it is no matter which of those that match is taken.
-use Rattle.std.proofs.Common.{◌≡◌, ◌≢◌, ℕ, zero, suc, ◌+◌, ◌<◌, ◌≤◌, Bool, true, false, cond, ◌&&◌, List, [], ◌∷◌, length, get_or, Option, Some, None, unwrap_or, All, Contains, refl, ap, sym, ◌∙◌, subst, ◌⊎◌, inl, inr, ⊎_elim, arith}
+use Rattle.std.proofs.Common.{◌≡◌, ◌≢◌, ℕ, zero, suc, ◌<◌, Bool, true, false, cond, ◌&&◌, List, [], ◌∷◌, length, get_or, Option, Some, None, unwrap_or, All, Contains, refl, ap, sym, ◌∙◌, subst, ◌⊎◌, inl, inr, ⊎_elim, arith}
 use Rattle.std.proofs.lemmas.Bool.{cond_both, cases_Bool, cases_order, both_ways}
 use Rattle.std.proofs.lemmas.List.{get_or_default}
 use Rattle.std.proofs.lemmas.List.Elements.{All-head, All-tail}
@@ -13,10 +13,10 @@ use Rattle.udp_table.specs.declared.row.EdgeRow.{EdgeRow}
 use Rattle.udp_table.specs.declared.row.Row.{Row}
 use Rattle.udp_table.specs.declared.row.Row.TheVariants.{Level, Edge}
 use Rattle.udp_table.specs.Symbols.{covers, covers_all, differ, next_value}
-use Rattle.udp_table.specs.Rows.{Case, case_of, matches, value_in, level_row_matches, edge_row_matches}
-use Rattle.udp_table.specs.Answers.{level_answer, edge_answer, answer_of, level_of}
+use Rattle.udp_table.specs.Rows.{Case, matches, value_in, level_row_matches, edge_row_matches}
+use Rattle.udp_table.specs.Answers.{level_answer, edge_answer, answer_of}
 use Rattle.udp_table.specs.Letters.{Fits}
-use Rattle.udp_table.specs.Conflicts.{IsCase, AreOfOneClass, Conflict, ConflictAt, HasNoConflict}
+use Rattle.udp_table.specs.Conflicts.{IsCase, AreOfOneClass, Conflict, HasNoConflict}
 
 -- ---- membership by place
 

@@ -1,11 +1,11 @@
 -- The first pair of rows that is found is the first pair that conflicts.
-use Rattle.std.proofs.Common.{◌≡◌, ℕ, suc, ◌+◌, ◌<◌, ◌≤◌, Bool, true, false, List, [], ◌∷◌, length, get_or, All, refl, ap, sym, ◌∙◌, subst, ◌⊎◌, inl, inr, ⊎_elim, arith}
+use Rattle.std.proofs.Common.{◌≡◌, ℕ, ◌+◌, ◌<◌, Bool, true, false, List, [], ◌∷◌, length, get_or, All, ap, sym, ◌∙◌, subst, ◌⊎◌, ⊎_elim, arith}
 use Rattle.std.proofs.lemmas.Bool.{cases_lt, both_ways}
 use Rattle.std.proofs.lemmas.List.{get_or_read}
 use Rattle.udp_table.specs.declared.row.Row.{Row}
 use Rattle.udp_table.specs.Letters.{Fits}
-use Rattle.udp_table.specs.Conflicts.{Conflict, ConflictAt, HasNoConflict, IsFirstConflict}
-use Rattle.udp_table.specs.Overlaps.{rows_conflict, NoneFound, AreFound, FindsPartner}
+use Rattle.udp_table.specs.Conflicts.{ConflictAt, HasNoConflict, IsFirstConflict}
+use Rattle.udp_table.specs.Overlaps.{rows_conflict, NoneFound, AreFound}
 use Rattle.udp_table.proofs.Conflicting.{HasCases, conflict-found, conflict-is_found, case-exists}
 
 -- one row further on

@@ -1,7 +1,6 @@
 -- What is read from the letters of a row is what they are written for, in both directions.
-use Rattle.std.proofs.Common.{◌≡◌, ◌≢◌, ℕ, ◌+◌, Bool, true, false, ◌&&◌, cond, eqb, List, [], ◌∷◌, ◌++◌, map, length, Option, Some, None, refl, ap, sym, ◌∙◌, subst, ◌⊎◌, inl, inr, ⊎_elim, arith, eq-eqb}
-use Rattle.std.proofs.lemmas.Bool.{cond_both, cond-true, eqb-true, and_parts, eqb-false}
-use Rattle.std.proofs.lemmas.List.{append_assoc}
+use Rattle.std.proofs.Common.{◌≡◌, ◌≢◌, ℕ, ◌+◌, Bool, true, false, ◌&&◌, cond, eqb, List, [], ◌∷◌, ◌++◌, map, length, Option, Some, None, refl, ap, sym, ◌∙◌, subst, ◌⊎◌, inl, inr, ⊎_elim, eq-eqb}
+use Rattle.std.proofs.lemmas.Bool.{cond_both, cond-true, eqb-true, and_parts}
 use Rattle.tern_core.specs.declared.tern.Tern.{Tern}
 use Rattle.tern_core.specs.declared.tern.Tern.TheVariants.{Zero, One, Unknown}
 use Rattle.udp_table.specs.declared.symbol.LevelSymbol.{LevelSymbol}
@@ -15,7 +14,7 @@ use Rattle.udp_table.specs.declared.row.EdgeRow.{EdgeRow}
 use Rattle.udp_table.specs.declared.row.Row.{Row}
 use Rattle.udp_table.specs.declared.row.Row.TheVariants.{Level, Edge}
 use Rattle.udp_table.specs.Letters.{value_letter, level_letter, edge_letters, next_letter, ending, row_letters, Fits, AreLetters}
-use Rattle.udp_table.specs.Reading.{value_at, level_at, next_at, edge_at, levels_in, after_levels, with_level, past_level, between_in, edge_in, ending_in, level_row_of, edge_row_of, edge_row_in, behind_levels, row_in, ◌>>=◌}
+use Rattle.udp_table.specs.Reading.{value_at, level_at, next_at, edge_at, levels_in, after_levels, with_level, past_level, between_in, edge_in, ending_in, level_row_of, edge_row_of, behind_levels, row_in, ◌>>=◌}
 
 -- ---- one letter
 

@@ -1,5 +1,5 @@
 -- What is reached at a subset is what the orders of its inputs end in.
-use Rattle.std.proofs.Common.{◌≡◌, ◌↔◌, ℕ, zero, suc, ◌+◌, ◌-◌, ◌*◌, ◌/◌, ◌%◌, ◌^◌, ◌<◌, ◌≤◌, Bool, true, false, cond, eqb, ◌||◌, List, [], ◌∷◌, ◌++◌, map, length, get_or, set, take, drop, refl, ap, sym, ◌∙◌, subst, ◌⊎◌, inl, inr, ⊎_elim, arith, eq-eqb, zero-add, mul-one, one-mul}
+use Rattle.std.proofs.Common.{◌≡◌, ◌↔◌, ℕ, ◌+◌, ◌-◌, ◌*◌, ◌/◌, ◌%◌, ◌^◌, ◌<◌, ◌≤◌, Bool, true, false, cond, eqb, ◌||◌, List, [], ◌∷◌, ◌++◌, map, length, get_or, set, refl, ap, sym, ◌∙◌, subst, ◌⊎◌, inl, inr, ⊎_elim, arith, eq-eqb, zero-add, mul-one, one-mul}
 use Rattle.std.proofs.Math.ListN.{length-set}
 use Rattle.std.proofs.lemmas.Bool.{cases_eq, ne_eqb, or_cases, or_left, or_right}
 use Rattle.std.proofs.lemmas.List.{get_or-set_same, get_or-set_other, ext_get_or}
@@ -7,14 +7,13 @@ use Rattle.tern_core.specs.declared.tern.Tern.{Tern}
 use Rattle.tern_core.specs.declared.tern.Tern.TheVariants.{Zero, One, Unknown}
 use Rattle.udp_table.specs.declared.states.States.{States}
 use Rattle.udp_table.specs.declared.row.Row.{Row}
-use Rattle.udp_table.specs.Symbols.{is_same}
 use Rattle.udp_table.specs.Rows.{case_of}
 use Rattle.udp_table.specs.Answers.{answer_of}
 use Rattle.udp_table.specs.Orders.{state_after}
 use Rattle.udp_table.specs.Subsets.{has, none, only, union, next_from, next_states, members, levels_after, gathered}
 use Rattle.udp_table.specs.Reached.{times, IsOrderOf, EndsIn, AreEnds, AreEndsBelow}
 use Rattle.udp_table.proofs.Orders.{Among, among_map, among_map-from, times-append, times-same}
-use Rattle.udp_table.proofs.Subsets.{picks, doubled, Picks, picks-are, picks-have, members-times, members-some, members-zero}
+use Rattle.udp_table.proofs.Subsets.{picks, doubled, picks-are, picks-have, members-times, members-some, members-zero}
 
 -- ---- sets of states
 
@@ -270,8 +269,8 @@ module _ (rows : List Row) (old new : List Tern) (state : Tern) (changed : List 
       let cut = cut_last member.0 ends.0 (omega (arith, ends.1 member.0, member.1)) in
       let front = cut.0 in
       let x = cut.1.0 in
-      let is : IsOrderOf xs (front ++ x ∷ []) = subst (IsOrderOf xs) cut.1.1 ends.1 in
-      let gives : state_after rows new (front ++ x ∷ []) old state ≡ v = subst (λ o. state_after rows new o old state ≡ v) cut.1.1 ends.2 in
+      let is : IsOrderOf xs (front ++ x ∷ []) = λ w. sym (ap (times w) cut.1.1) ∙ ends.1 w in
+      let gives : state_after rows new (front ++ x ∷ []) old state ≡ v = sym (ap (λ o. state_after rows new o old state) cut.1.1) ∙ ends.2 in
       let among : 0 < times x xs = omega (arith, is x, times-append x front (x ∷ []), times-same x []) in
       let d = picks-have x changed subset among in
       let pick = picks-are changed subset (x, d.0) d.1 in

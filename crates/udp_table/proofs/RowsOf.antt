@@ -1,5 +1,5 @@
 -- The rows of a text, one by one.
-use Rattle.std.proofs.Common.{◌≡◌, ℕ, suc, ◌+◌, ◌<◌, ◌≤◌, Bool, List, [], ◌∷◌, zero, ◌++◌, length, take, get_or, Option, Some, None, MatchOption, refl, ap, sym, ◌∙◌, subst, arith}
+use Rattle.std.proofs.Common.{◌≡◌, ℕ, suc, ◌+◌, ◌<◌, Bool, List, [], ◌∷◌, zero, ◌++◌, length, take, get_or, Option, Some, None, MatchOption, ap, sym, ◌∙◌, subst, arith}
 use Rattle.std.specs.List.{AllZip}
 use Rattle.std.specs.Str.{str_to_ascii_lowercase}
 use Rattle.std.proofs.lemmas.Slice.Zip.{all_zipped_more}
@@ -7,7 +7,7 @@ use Rattle.std.proofs.lemmas.List.{take_more, get_or_read, get_or-take, length-t
 use Rattle.verilog_source.specs.declared.primitive.UdpText.{UdpText}
 use Rattle.udp_table.specs.declared.row.Row.{Row}
 use Rattle.udp_table.specs.Letters.{Fits, IsRow}
-use Rattle.udp_table.specs.Building.{IsGoodRow, IsFirstBadRow, number_at}
+use Rattle.udp_table.specs.Building.{IsGoodRow, IsFirstBadRow}
 use Rattle.udp_table.specs.Reading.{row_in}
 use Rattle.udp_table.proofs.Grammar.{row_in-sound, row_in-letters}
 

@@ -1,5 +1,5 @@
 -- When a row of a table matches, and what it then gives (IEEE 1364-2005, 8.3 to 8.5).
-use Rattle.std.specs.Prelude.{ℕ, ◌+◌, ◌==◌, Bool, true, false, ◌&&◌, List, length, take, drop, slice_index_or}
+use Rattle.std.specs.Prelude.{ℕ, ◌+◌, ◌==◌, Bool, ◌&&◌, List, length, take, drop, slice_index_or}
 use Rattle.tern_core.specs.declared.tern.Tern.{Tern}
 use Rattle.tern_core.specs.declared.tern.Tern.TheVariants.{Unknown}
 use Rattle.udp_table.specs.declared.row.LevelRow.{LevelRow}

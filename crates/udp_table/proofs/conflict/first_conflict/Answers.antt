@@ -1,4 +1,4 @@
-use Rattle.std.proofs.Common.{◌<◌, arith, inl, inr}
+use Rattle.std.proofs.Common.{arith, inl, inr}
 use Rattle.udp_table.proofs.Conflicting.{HasCases}
 use Rattle.udp_table.proofs.FirstConflicts.{has_cases, no_cases, no_input, none_at_all, first_here, place_more}
 use Rattle.udp_table.proofs.conflict.first_conflict.Goals as goal

@@ -1,4 +1,4 @@
-use Rattle.std.proofs.Common.{◌<◌, ◌≡◌, ◌-◌, ◌*◌, ◌%◌, ◌^◌, length, get_or, ap, sym, ◌∙◌, refl, arith}
+use Rattle.std.proofs.Common.{◌≡◌, ◌-◌, ◌*◌, ◌%◌, ◌^◌, get_or, ap, sym, ◌∙◌, arith}
 use Rattle.std.proofs.lemmas.List.{get_or_default}
 use Rattle.tern_core.specs.declared.tern.Tern.TheVariants.{Zero, Unknown}
 use Rattle.udp_table.specs.Subsets.{none, next_states}

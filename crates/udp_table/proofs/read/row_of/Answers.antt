@@ -1,4 +1,4 @@
-use Rattle.std.proofs.Common.{◌∙◌, IfOk}
+use Rattle.std.proofs.Common.{◌∙◌}
 use Rattle.std.proofs.lemmas.Result.{IfOk-weaker}
 use Rattle.udp_table.proofs.RowsOf.{IsFound, row_is_found}
 use Rattle.udp_table.proofs.read.row_of.Goals as goal

@@ -1,4 +1,4 @@
-use Rattle.std.proofs.Common.{◌<◌, ◌≡◌, length, get_or, ap, ◌∙◌, sym, arith}
+use Rattle.std.proofs.Common.{◌<◌, length, get_or, ap, ◌∙◌, sym}
 use Rattle.udp_table.proofs.RowsOf.{first_bad, one_more}
 use Rattle.udp_table.proofs.read.rows.Goals as goal
 

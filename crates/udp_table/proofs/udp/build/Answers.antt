@@ -1,5 +1,4 @@
-use Rattle.std.proofs.Common.{◌<◌, ◌≤◌, refl, arith}
-use Rattle.udp_table.specs.Conflicts.{HasNoConflict}
+use Rattle.std.proofs.Common.{refl, arith}
 use Rattle.udp_table.proofs.RowsOf.{all_fit}
 use Rattle.udp_table.proofs.udp.build.Goals as goal
 
