@@ -1,4 +1,4 @@
--- What a primitive answers (IEEE 1364-2005, clause 8): a level row that matches decides, else an edge
+-- What a primitive answers: a level row that matches decides (IEEE 1364-2005, 8.8), else an edge
 -- row that matches, else the answer is x.
 use Rattle.std.specs.Prelude.{List, [], ◌∷◌, Option, Some, None, unwrap_or, if◌then◌else◌}
 use Rattle.tern_core.specs.declared.tern.Tern.{Tern}

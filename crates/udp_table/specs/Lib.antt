@@ -1,3 +1,4 @@
+pub use Rattle.tern_core.specs.Values
 pub mod Symbols
 pub mod Rows
 pub mod Answers

@@ -1,4 +1,4 @@
--- When a row of a table matches, and what it then gives (IEEE 1364-2005, 8.3 to 8.5).
+-- When a row of a table matches, and what it then gives (IEEE 1364-2005, 8.2 to 8.4 and 8.7).
 use Rattle.std.specs.Prelude.{ℕ, ◌+◌, ◌==◌, Bool, ◌&&◌, List, length, take, drop, slice_index_or}
 use Rattle.tern_core.specs.declared.tern.Tern.{Tern}
 use Rattle.tern_core.specs.declared.tern.Tern.TheVariants.{Unknown}

@@ -1,4 +1,5 @@
-//! User-defined primitives (IEEE 1364-2005, clause 8): from a primitive's text to a table that answers.
+//! User-defined primitives (IEEE 1364-2005, clause 8): from a primitive's text to a table that
+//! answers what the output is, or what the state becomes after one change or after several at once.
 #![tactic(auto)]
 
 mod answer;
@@ -16,7 +17,7 @@ pub use order::OrderRoom;
 pub use refusal::UdpRefusal;
 pub use row::{EdgeRow, LevelRow, Row};
 pub use symbol::{EdgeSymbol, LevelSymbol, NextState};
-pub use udp::{Udp, build};
+pub use udp::{MAX_INPUTS, Udp, build};
 
 #[cfg(test)]
 mod tests;

@@ -9,7 +9,7 @@ use crate::states::States;
 use crate::symbol::differ;
 use tern_core::Tern;
 
-/// The most inputs of a primitive, as a length.
+/// The most inputs that can change.
 const WIDTH: usize = 10;
 
 /// The number of subsets of so many inputs.
