@@ -237,6 +237,11 @@ cut_last : (w : ℕ) (order : List ℕ) → 0 < times w order → (front : List 
 cut_last w [] h = absurd (omega arith)
 cut_last w (y ∷ ys) h = last_of y ys
 
+-- the first element's weight is 1
+first_from : (rows : List Row) (old levels : List Tern) (places : List States) (subset : ℕ) (p : ℕ × ℕ) (v : Tern) → has (next_states rows p.0 (get_or old p.0 Unknown) levels (get_or places (subset - p.1) none)) v ≡ true → From rows old levels places subset 1 p v
+first_from rows old levels places subset p v h =
+    subst (λ m. has (next_states rows p.0 (get_or old p.0 Unknown) levels (get_or places (subset - m) none)) v ≡ true) (sym (mul-one p.1)) h
+
 -- ---- each subset from those below it
 
 module _ (rows : List Row) (old new : List Tern) (state : Tern) (changed : List ℕ) (inputs : (w : ℕ) → 0 < times w changed → w < length old) (once : (w : ℕ) → times w changed ≤ 1) where
@@ -284,7 +289,7 @@ module _ (rows : List Row) (old new : List Tern) (state : Tern) (changed : List 
       let answer = reach_to rows old new state xs front x v (inputs x there) single is gives in
       let came : has (next_states rows x (get_or old x Unknown) levels (get_or places lower none)) v ≡ true = has-next rows x (get_or old x Unknown) levels (get_or places lower none) u v held answer in
       gathered-from rows old levels places subset v changed subset 1 none
-      (inr ((x, d.0), d.1, subst (λ m. has (next_states rows x (get_or old x Unknown) levels (get_or places (subset - m) none)) v ≡ true) (sym (mul-one d.0)) came))
+      (inr ((x, d.0), d.1, first_from rows old levels places subset (x, d.0) v came))
 
   pub gathered-ends : (places : List States) (subset : ℕ) → 0 < subset → subset < 2 ^ length changed → AreEndsBelow rows old new state changed places subset → AreEnds rows old new state (members changed subset) (gathered_at places subset)
   gathered-ends places subset some small below v =
