@@ -1,0 +1,13 @@
+pub mod Covers
+pub mod Grammar
+pub mod Decisions
+pub mod Filling
+pub mod Commons
+pub mod Reaching
+pub mod Subsets
+pub mod Orders
+pub mod Levels
+pub mod RowsOf
+pub mod FirstConflicts
+pub mod Conflicting
+pub mod Overlapping

@@ -1,0 +1,13 @@
+pub use Rattle.tern_core.specs.Values
+pub mod Symbols
+pub mod Rows
+pub mod Answers
+pub mod Letters
+pub mod Table
+pub mod Conflicts
+pub mod Building
+pub mod Reading
+pub mod Overlaps
+pub mod Orders
+pub mod Subsets
+pub mod Reached
