@@ -1,0 +1,4 @@
+pub mod Order
+pub mod Spreading
+pub mod Exact
+pub mod States

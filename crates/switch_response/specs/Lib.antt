@@ -1,0 +1,5 @@
+pub mod Walks
+pub mod Spread
+pub mod Seeds
+pub mod Network
+pub mod Differences

@@ -1,0 +1,11 @@
+//! Networks of transistors and what they do: the switch-level model after R. E. Bryant, "A switch-level model and
+//! simulator for MOS digital systems", IEEE Transactions on Computers C-33 (1984).
+#![tactic(auto)]
+
+mod network;
+mod relax;
+mod response;
+mod transistor;
+
+pub use network::{Scratch, State, SwitchNet, first_change, respond};
+pub use transistor::{Channel, Transistor};
