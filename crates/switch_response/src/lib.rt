@@ -5,7 +5,9 @@
 mod network;
 mod relax;
 mod response;
+mod steps;
 mod transistor;
 
 pub use network::{Scratch, State, SwitchNet, first_change, respond};
+pub use steps::Steps;
 pub use transistor::{Channel, Transistor};

@@ -1,13 +1,7 @@
-// A library with one function.
+//! Waits of a transistor network, and laws of its response.
 #![tactic(auto)]
 
-ghost use Rattle.std.specs.Prelude.{◌≡◌};
-ghost use Rattle.switch_run.specs.Echo.{echo_of};
+pub mod laws;
+mod wait;
 
-// The `ensures` clause is the contract: what `echo` returns is `echo_of` of its argument, a definition
-// in `specs/Echo.antt`, which a caller's clause can cite too.
-pub fn echo(x: usize) -> usize
-    ensures { result ≡ echo_of x }
-{
-    x
-}
+pub use wait::{Rest, wait};
