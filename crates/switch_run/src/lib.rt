@@ -2,6 +2,6 @@
 #![tactic(auto)]
 
 pub mod laws;
-mod wait;
+mod waiting;
 
-pub use wait::{Rest, wait};
+pub use waiting::{RESPONSES, Rest, wait};
