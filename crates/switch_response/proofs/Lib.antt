@@ -2,3 +2,4 @@ pub mod Order
 pub mod Spreading
 pub mod Exact
 pub mod States
+pub mod NameKeys

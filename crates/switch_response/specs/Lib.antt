@@ -3,3 +3,4 @@ pub mod Spread
 pub mod Seeds
 pub mod Network
 pub mod Differences
+pub mod NameIndex
