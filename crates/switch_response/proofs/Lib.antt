@@ -3,3 +3,4 @@ pub mod Spreading
 pub mod Exact
 pub mod States
 pub mod NameKeys
+pub mod NameLists

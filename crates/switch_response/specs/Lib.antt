@@ -4,3 +4,5 @@ pub mod Seeds
 pub mod Network
 pub mod Differences
 pub mod NameIndex
+pub mod Wiring
+pub mod Places

@@ -3,6 +3,7 @@
 #![tactic(auto)]
 
 mod name_index;
+mod naming;
 mod network;
 mod relax;
 mod response;
