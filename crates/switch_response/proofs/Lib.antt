@@ -4,3 +4,4 @@ pub mod Exact
 pub mod States
 pub mod NameKeys
 pub mod NameLists
+pub mod CardEnds

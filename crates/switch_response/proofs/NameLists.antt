@@ -1,15 +1,16 @@
 -- Lists of names, item by item.
-use Rattle.std.proofs.Common.{◌≡◌, ℕ, zero, suc, ◌+◌, ◌<◌, Bool, true, false, cond, List, [], ◌∷◌, ◌++◌, length, map, get_or, take, drop, Option, Some, None, refl, sym, ◌∙◌, ap, subst, append_assoc, arith}
+use Rattle.std.proofs.Common.{◌≡◌, ℕ, zero, suc, ◌+◌, ◌<◌, ◌⊎◌, inl, inr, Bool, true, false, cond, List, [], ◌∷◌, ◌++◌, length, map, get_or, take, drop, Option, Some, None, refl, sym, ◌∙◌, ap, subst, append_assoc, arith}
 use Rattle.std.specs.Prelude.{find, is_some, IsSome, slice_get, ◌||◌}
 use Rattle.std.specs.List.{list_any, position_from}
 use Rattle.std.specs.Option.{option_or}
 use Rattle.std.specs.Str.{bytes_eq}
 use Rattle.std.specs.Cmp.Lexicographic.{bytes_decides, nat_list_eq_equiv}
 use Rattle.std.proofs.lemmas.List.{append-nil, take_more, map-append}
+use Rattle.std.proofs.lemmas.List.Folds.{list_any-append}
 use Rattle.switch_response.specs.declared.name_index.NameIndex.{NameIndex}
-use Rattle.switch_response.specs.NameIndex.{found, Adds}
+use Rattle.switch_response.specs.NameIndex.{found, Adds, place_of}
 use Rattle.switch_response.specs.Wiring.{firsts, first_double}
-use Rattle.switch_response.specs.Places.{Indexes}
+use Rattle.switch_response.specs.Places.{Indexes, Grows}
 
 -- Places
 
@@ -118,19 +119,19 @@ eq_back a b = nat_list_eq_equiv.symm a b
 abbrev pub firsts_by : Bool → List (List ℕ) → List ℕ → List (List ℕ) → List (List ℕ)
 firsts_by b before y ys = cond b (firsts before ys) (y ∷ firsts (before ++ y ∷ []) ys)
 
-firsts_step : (b : Bool) (before : List (List ℕ)) (y : List ℕ) (ys : List (List ℕ)) (x : List ℕ)
-    → firsts before (ys ++ x ∷ []) ≡ firsts before ys ++ firsts (before ++ firsts before ys) (x ∷ [])
-    → firsts (before ++ y ∷ []) (ys ++ x ∷ []) ≡ firsts (before ++ y ∷ []) ys ++ firsts ((before ++ y ∷ []) ++ firsts (before ++ y ∷ []) ys) (x ∷ [])
-    → firsts_by b before y (ys ++ x ∷ []) ≡ firsts_by b before y ys ++ firsts (before ++ firsts_by b before y ys) (x ∷ [])
-firsts_step true before y ys x h g = h
-firsts_step false before y ys x h g =
-    ap (λ zs. y ∷ zs) g ∙ ap (λ b. y ∷ firsts (before ++ y ∷ []) ys ++ firsts b (x ∷ [])) (append_assoc before (y ∷ []) (firsts (before ++ y ∷ []) ys))
+firsts_step : (b : Bool) (before : List (List ℕ)) (y : List ℕ) (ys zs : List (List ℕ))
+    → firsts before (ys ++ zs) ≡ firsts before ys ++ firsts (before ++ firsts before ys) zs
+    → firsts (before ++ y ∷ []) (ys ++ zs) ≡ firsts (before ++ y ∷ []) ys ++ firsts ((before ++ y ∷ []) ++ firsts (before ++ y ∷ []) ys) zs
+    → firsts_by b before y (ys ++ zs) ≡ firsts_by b before y ys ++ firsts (before ++ firsts_by b before y ys) zs
+firsts_step true before y ys zs h g = h
+firsts_step false before y ys zs h g =
+    ap (λ xs. y ∷ xs) g ∙ ap (λ b. y ∷ firsts (before ++ y ∷ []) ys ++ firsts b zs) (append_assoc before (y ∷ []) (firsts (before ++ y ∷ []) ys))
 
--- one name more
-pub firsts_more : (before xs : List (List ℕ)) (x : List ℕ) → firsts before (xs ++ x ∷ []) ≡ firsts before xs ++ firsts (before ++ firsts before xs) (x ∷ [])
-firsts_more before [] x = ap (λ b. firsts b (x ∷ [])) (sym (append-nil before))
-firsts_more before (y ∷ ys) x =
-    firsts_step (list_any (bytes_eq y) before) before y ys x (firsts_more before ys x) (firsts_more (before ++ y ∷ []) ys x)
+-- more names
+pub firsts_append : (before xs zs : List (List ℕ)) → firsts before (xs ++ zs) ≡ firsts before xs ++ firsts (before ++ firsts before xs) zs
+firsts_append before [] zs = ap (λ b. firsts b zs) (sym (append-nil before))
+firsts_append before (y ∷ ys) zs =
+    firsts_step (list_any (bytes_eq y) before) before y ys zs (firsts_append before ys zs) (firsts_append (before ++ y ∷ []) ys zs)
 
 -- Loops over lists, item by item
 
@@ -185,3 +186,53 @@ double_later x rest whole old new place false f e seen a = absurd (cc)
 double_later x rest whole old new place true f e seen a =
     let none : list_any (bytes_eq x) rest ≡ false = sym (seen x) ∙ ap is_some a.0 in
     ap first_double e ∙ ap (λ b. cond b (Some x) (first_double rest)) none
+
+-- Growing lists of names
+
+-- more names, one after the other
+pub grows_through : (before old more last mid new : List (List ℕ)) → Grows before old more mid → Grows before mid last new → Grows before old (more ++ last) new
+grows_through before old more last mid new h g =
+    g ∙ ap (λ m. m ++ firsts (before ++ m) last) h
+    ∙ append_assoc old (firsts (before ++ old) more) (firsts (before ++ (old ++ firsts (before ++ old) more)) last)
+    ∙ ap (λ b. old ++ (firsts (before ++ old) more ++ firsts b last)) (sym (append_assoc before old (firsts (before ++ old) more)))
+    ∙ ap (λ xs. old ++ xs) (sym (firsts_append (before ++ old) more last))
+
+pub grows_none : (before old : List (List ℕ)) → Grows before old [] old
+grows_none before old = sym (append-nil old)
+
+stands : (before names : List (List ℕ)) (x : List ℕ) → list_any (bytes_eq x) (before ++ names) ≡ true → Grows before names (x ∷ []) names
+stands before names x h = sym (ap (λ b. names ++ cond b [] (x ∷ [])) h ∙ append-nil names)
+
+-- a name that is among the input nodes
+pub grows_input : (before names : List (List ℕ)) (x : List ℕ) (k : ℕ) → place_of before x ≡ Some k → Grows before names (x ∷ []) names
+grows_input before names x k h =
+    let any : list_any (bytes_eq x) before ≡ true = sym (position_any (bytes_eq x) 0 before) ∙ ap is_some h in
+    stands before names x (list_any-append (bytes_eq x) before names ∙ ap (λ b. b || list_any (bytes_eq x) names) any)
+
+or_true : (b : Bool) → (b || true) ≡ true
+or_true true = refl
+or_true false = refl
+
+-- a name that is a storage node already
+pub grows_known : (before names : List (List ℕ)) (x : List ℕ) (k : ℕ) → place_of names x ≡ Some k → Grows before names (x ∷ []) names
+grows_known before names x k h =
+    let any : list_any (bytes_eq x) names ≡ true = sym (position_any (bytes_eq x) 0 names) ∙ ap is_some h in
+    stands before names x (list_any-append (bytes_eq x) before names ∙ ap (λ b. list_any (bytes_eq x) before || b) any ∙ or_true (list_any (bytes_eq x) before))
+
+-- a new name
+pub grows_new : (before names : List (List ℕ)) (x : List ℕ) → place_of before x ≡ None → place_of names x ≡ None → Grows before names (x ∷ []) (names ++ x ∷ [])
+grows_new before names x h g =
+    let outside : list_any (bytes_eq x) before ≡ false = sym (position_any (bytes_eq x) 0 before) ∙ ap is_some h in
+    let fresh : list_any (bytes_eq x) names ≡ false = sym (position_any (bytes_eq x) 0 names) ∙ ap is_some g in
+    let none : list_any (bytes_eq x) (before ++ names) ≡ false = list_any-append (bytes_eq x) before names ∙ ap (λ b. b || list_any (bytes_eq x) names) outside ∙ fresh in
+    sym (ap (λ b. names ++ cond b [] (x ∷ [])) none)
+
+-- a name that had no place gets one
+pub adds_new : (old new : NameIndex) (names : List (List ℕ)) (x : List ℕ) (place : ℕ) (fresh : Bool) → place ≡ length names → Indexes bytes_eq names old → Adds old new x place fresh → Indexes bytes_eq (names ++ x ∷ []) new
+adds_new old new names x place fresh e h a = added bytes_eq names x x old new place fresh e (λ q. eq_back q x) h a
+
+pub get_push : {X : Type 0} (xs : List X) (x y : X) (k : ℕ) → slice_get (xs ++ x ∷ []) k ≡ Some y → (slice_get xs k ≡ Some y) ⊎ ((k ≡ length xs) × (x ≡ y))
+get_push [] x y zero h = inr (refl, (cc))
+get_push [] x y (suc k) h = absurd (cc)
+get_push (z ∷ xs) x y zero h = inl h
+get_push (z ∷ xs) x y (suc k) h = elim (get_push xs x y k h) [ inl g ↦ inl g | inr g ↦ inr ((let e = g.0 in omega arith), g.1) ]

@@ -1,9 +1,12 @@
-use Rattle.std.specs.Prelude.{◌≡◌, ℕ, Bool, List, Some, slice_get}
+use Rattle.std.specs.Prelude.{◌≡◌, ℕ, Bool, List, ◌++◌, Some, slice_get}
 use Rattle.std.specs.List.{position_from}
 use Rattle.switch_response.specs.declared.name_index.NameIndex.{NameIndex}
 use Rattle.switch_response.specs.declared.naming.Place.{Place}
 use Rattle.switch_response.specs.declared.naming.Place.TheVariants.{Storage, Input}
+use Rattle.circuit.specs.declared.netlist.Transistor.{Transistor as Card}
+use Rattle.switch_response.specs.declared.naming.Ends.{Ends}
 use Rattle.switch_response.specs.NameIndex.{found}
+use Rattle.switch_response.specs.Wiring.{firsts}
 
 -- the index has the first place in a list at which the test finds each name
 abbrev pub Indexes : {X : Type 0} → (List ℕ → X → Bool) → List X → NameIndex → Type 0
@@ -13,3 +16,17 @@ Indexes test xs index = (q : List ℕ) → found index q ≡ position_from (test
 abbrev pub IsPlaceOf : List (List ℕ) → List (List ℕ) → List ℕ → Place → Type 0
 IsPlaceOf storage inputs name (Storage k) = slice_get storage k ≡ Some name
 IsPlaceOf storage inputs name (Input k) = slice_get inputs k ≡ Some name
+
+-- The names of storage nodes, after more names: those that are new stand at the end, in their order.
+abbrev pub Grows : List (List ℕ) → List (List ℕ) → List (List ℕ) → List (List ℕ) → Type 0
+Grows inputs old more new = new ≡ old ++ firsts (inputs ++ old) more
+
+pub record AreEndsOf (storage inputs : List (List ℕ)) (card : Card) (ends : Ends) : Type 0 where
+  pub drain : IsPlaceOf storage inputs card.drain ends.drain
+  pub gate : IsPlaceOf storage inputs card.gate ends.gate
+  pub source : IsPlaceOf storage inputs card.source ends.source
+
+-- the ends of each card, in their order
+abbrev pub AreAllEnds : List (List ℕ) → List (List ℕ) → List Card → List Ends → Type 0
+AreAllEnds storage inputs cards ends =
+    (k : ℕ) (card : Card) (e : Ends) → slice_get cards k ≡ Some card → slice_get ends k ≡ Some e → AreEndsOf storage inputs card e
