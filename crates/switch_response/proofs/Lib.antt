@@ -5,3 +5,4 @@ pub mod States
 pub mod NameKeys
 pub mod NameLists
 pub mod CardEnds
+pub mod Building

@@ -6,3 +6,4 @@ pub mod Differences
 pub mod NameIndex
 pub mod Wiring
 pub mod Places
+pub mod Refusals

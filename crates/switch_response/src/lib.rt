@@ -2,6 +2,7 @@
 //! simulator for MOS digital systems", IEEE Transactions on Computers C-33 (1984).
 #![tactic(auto)]
 
+mod build;
 mod name_index;
 mod naming;
 mod network;

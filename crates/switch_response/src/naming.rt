@@ -1,6 +1,6 @@
 //! The nodes of a subcircuit: their names and places.
 
-ghost use Rattle.std.specs.Prelude.{◌≡◌, ◌<◌, ℕ, List, [], ◌∷◌, ◌++◌, map, length, Some, None, IfOk, OnOk, MatchOption, slice_get};
+ghost use Rattle.std.specs.Prelude.{◌≡◌, ◌<◌, ◌^◌, ℕ, List, [], ◌∷◌, ◌++◌, map, length, Some, None, IfOk, OnOk, MatchOption, slice_get};
 ghost use Rattle.std.specs.Str.{bytes_eq};
 ghost use Rattle.switch_response.specs.Wiring.{input_nodes, first_double, pin_names, names_on, card_names, firsts};
 ghost use Rattle.switch_response.specs.Places.{Indexes, IsPlaceOf, Grows, AreEndsOf, AreAllEnds};
@@ -49,6 +49,21 @@ pub fn index_of_inputs(
         let _ = index.add(alloc, supplies[place].name.as_bytes(), inputs.len() + place)?;
     }
     Ok(index)
+}
+
+impl Place {
+    ghost use Rattle.switch_response.specs.Places.{number_of};
+
+    /// The node's number, where so many storage nodes stand before the input nodes.
+    pub fn number(self, storage: usize) -> usize
+        requires { number_of storage self < 2 ^ 64 }
+        ensures { result ≡ number_of storage self }
+    {
+        match self {
+            Place::Storage(node) => node,
+            Place::Input(node) => storage + node,
+        }
+    }
 }
 
 /// Where the ends of a card stand.
