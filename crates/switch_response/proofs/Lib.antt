@@ -5,4 +5,5 @@ pub mod States
 pub mod NameKeys
 pub mod NameLists
 pub mod CardEnds
-pub mod Building
+pub mod CardModels
+pub mod BuiltNetwork

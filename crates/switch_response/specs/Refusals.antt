@@ -4,8 +4,8 @@ use Rattle.circuit.specs.declared.netlist.Transistor.{Transistor as Card}
 use Rattle.circuit.specs.declared.tech.ModelCard.{ModelCard}
 use Rattle.circuit.specs.declared.tech.Supply.{Supply}
 use Rattle.circuit.specs.declared.tech.Tech.{Tech}
-use Rattle.switch_response.specs.declared.build.NetRefusal.{NetRefusal}
-use Rattle.switch_response.specs.declared.build.NetRefusal.TheVariants.{SupplyShort, UnknownModel, TooManyNodes, NoMemory}
+use Rattle.switch_response.specs.declared.building.NetRefusal.{NetRefusal}
+use Rattle.switch_response.specs.declared.building.NetRefusal.TheVariants.{SupplyShort, UnknownModel, TooManyNodes, NoMemory}
 use Rattle.switch_response.specs.Wiring.{pin_names, storage_nodes, first_double, first_unknown, most_nodes}
 
 -- Why a subcircuit is refused: the first of the three causes that applies, or want of memory.

@@ -2,7 +2,7 @@
 //! simulator for MOS digital systems", IEEE Transactions on Computers C-33 (1984).
 #![tactic(auto)]
 
-mod build;
+mod building;
 mod name_index;
 mod naming;
 mod network;
@@ -11,6 +11,7 @@ mod response;
 mod steps;
 mod transistor;
 
+pub use building::{NetRefusal, build};
 pub use network::{Scratch, State, SwitchNet, first_change, respond};
 pub use steps::Steps;
 pub use transistor::{Channel, Transistor};

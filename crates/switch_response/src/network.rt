@@ -1,11 +1,14 @@
 //! Networks, their states, and the room that a response takes.
 
-ghost use Rattle.std.specs.Prelude.{◌≡◌, ◌≤◌, ◌<◌, ◌+◌, ◌++◌, ℕ, List, length, slice_set, slice_get, IfOk, Some, replicate, MatchOption};
+ghost use Rattle.std.specs.Prelude.{◌≡◌, ◌≤◌, ◌<◌, ◌+◌, ◌++◌, ℕ, List, length, slice_set, slice_get, IfOk, Some, replicate, MatchOption, Contains};
+ghost use Rattle.std.specs.Str.{bytes_eq};
+ghost use Rattle.switch_response.specs.Places.{Indexes};
 ghost use Rattle.tern_core.specs.declared.tern.Tern.{Tern};
 ghost use Rattle.switch_response.specs.Walks.{value_at, net, IsResponse, HasArrival};
 ghost use Rattle.switch_response.specs.Network.{Network, IsNetwork, all_values, Room, IsRoomFor};
 ghost use Rattle.switch_response.specs.Differences.{IsFirstDifference};
 
+use crate::name_index::NameIndex;
 use crate::response::respond_over;
 use crate::transistor::Transistor;
 use std::alloc::Global;
@@ -16,11 +19,12 @@ use text_scan::{NoMemory, Text};
 /// A network of transistors. Its nodes are numbered: storage nodes first, then input pins, then supplies.
 #[derive(Drop)]
 pub struct SwitchNet {
-    names: Vec<Text>,
-    pins: usize,
-    supplies: Vec<Tern>,
-    strengths: Vec<u8>,
-    transistors: Vec<Transistor>,
+    pub(crate) names: Vec<Text>,
+    pub(crate) index: NameIndex,
+    pub(crate) pins: usize,
+    pub(crate) supplies: Vec<Tern>,
+    pub(crate) strengths: Vec<u8>,
+    pub(crate) transistors: Vec<Transistor>,
 }
 
 impl Model for SwitchNet {
@@ -28,7 +32,7 @@ impl Model for SwitchNet {
 
     ghost view = { λ s. record { names = s.names.items; pins = s.pins; supplies = s.supplies.items; net = net (length s.names.items) s.strengths.items s.transistors.items } };
 
-    ghost invariant = { λ s. IsNetwork (record { names = s.names.items; pins = s.pins; supplies = s.supplies.items; net = net (length s.names.items) s.strengths.items s.transistors.items }) };
+    ghost invariant = { λ s. IsNetwork (record { names = s.names.items; pins = s.pins; supplies = s.supplies.items; net = net (length s.names.items) s.strengths.items s.transistors.items }) × Indexes bytes_eq s.names.items s.index };
 }
 
 /// The values of a network's storage nodes.
@@ -76,6 +80,13 @@ impl SwitchNet {
         ensures { slice_get self.now.names node ≡ Some result.now }
     {
         self.names[node].as_bytes()
+    }
+
+    /// The storage node of this name.
+    pub fn node_of(&self, name: &[u8]) -> Option<usize>
+        ensures { MatchOption result (¬ Contains self.now.names name.now) (λ node. slice_get self.now.names node ≡ Some name.now) }
+    {
+        self.index.get(name)
     }
 }
 

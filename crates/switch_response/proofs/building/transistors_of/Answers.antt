@@ -4,8 +4,8 @@ use Rattle.circuit.specs.declared.netlist.Transistor.{Transistor as Card}
 use Rattle.switch_response.specs.Wiring.{AllStandFor}
 use Rattle.switch_response.specs.Places.{IsModelAt}
 use Rattle.switch_response.proofs.NameLists.{get_within, take_at}
-use Rattle.switch_response.proofs.Building.{stands_for, all_stand_push}
-use Rattle.switch_response.proofs.build.transistors_of.Goals as goal
+use Rattle.switch_response.proofs.CardModels.{stands_for, all_stand_push}
+use Rattle.switch_response.proofs.building.transistors_of.Goals as goal
 
 pub transistor_of-requires-clause-place : goal.transistor_of-requires-clause-place
 transistor_of-requires-clause-place c =

@@ -2,9 +2,9 @@ use Rattle.std.proofs.Common.{◌≡◌, ◌<◌, ℕ, List, [], ◌∷◌, ◌+
 use Rattle.switch_response.specs.NameIndex.{found}
 use Rattle.switch_response.specs.Wiring.{size_of}
 use Rattle.switch_response.proofs.NameLists.{map_take_at}
-use Rattle.switch_response.proofs.Building.{size_within, size_found, size_missing}
-use Rattle.switch_response.proofs.build.sizes_of.Goals as goal
-use Rattle.switch_response.proofs.build.sizes_of.Goals.{in-Some, in-None}
+use Rattle.switch_response.proofs.CardModels.{size_within, size_found, size_missing}
+use Rattle.switch_response.proofs.building.sizes_of.Goals as goal
+use Rattle.switch_response.proofs.building.sizes_of.Goals.{in-Some, in-None}
 
 pub strength_at-requires : goal.strength_at-requires
 strength_at-requires c =

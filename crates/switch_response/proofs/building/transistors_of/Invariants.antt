@@ -1,7 +1,7 @@
 use Rattle.std.proofs.Common.{◌≡◌, ◌++◌, ℕ, List, take, length}
 use Rattle.switch_response.specs.Wiring.{AllStandFor}
 use Rattle.switch_response.specs.Places.{AreAllEnds}
-use Rattle.switch_response.proofs.build.transistors_of.Given as goal
+use Rattle.switch_response.proofs.building.transistors_of.Given as goal
 
 abbrev pub invariant-loop-place : goal.invariant-loop-place
 invariant-loop-place l =

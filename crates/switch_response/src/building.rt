@@ -1,15 +1,16 @@
 //! The network of a subcircuit.
 
 ghost use Rattle.std.specs.Prelude.{◌≡◌, ◌<◌, ◌≤◌, ◌+◌, ◌++◌, ℕ, List, map, length, replicate, Some, None, IfOk, OnOk, IfErr, All, slice_get, IsSomeAnd};
-ghost use Rattle.switch_response.specs.Wiring.{AllStandFor, size_of, supply_value, channel_of, first_unknown};
+ghost use Rattle.switch_response.specs.Wiring.{AllStandFor, size_of, supply_value, channel_of, first_unknown, IsNetworkOf, IsAccepted};
 ghost use Rattle.switch_response.specs.Places.{Indexes, AreAllEnds, HasNumbers, AreModels, number_of, is_named, is_size_of};
-ghost use Rattle.switch_response.specs.Refusals.{IsMissing};
-ghost use Rattle.switch_response.specs.declared.build.NetRefusal.TheVariants.{NoMemory};
+ghost use Rattle.switch_response.specs.Refusals.{IsMissing, IsCause};
+ghost use Rattle.switch_response.specs.declared.building.NetRefusal.TheVariants.{NoMemory};
 
 use crate::name_index::NameIndex;
-use crate::naming::Ends;
+use crate::naming::{Ends, double_of, index_of_inputs, nodes_of};
+use crate::network::SwitchNet;
 use crate::transistor::{Channel, Transistor};
-use circuit::{ModelCard, Size, Supply, Transistor as Card};
+use circuit::{ModelCard, Size, Subcircuit, Supply, Tech, Transistor as Card};
 use std::alloc::{AllocError, AllocFailed, Global};
 use tern_core::Tern;
 use text_scan::{PinKind, Text};
@@ -208,4 +209,56 @@ fn supply_values(alloc: Global, supplies: &[Supply]) -> Result<Vec<Tern>, AllocE
     ensures { IfOk result (λ values. values.items ≡ map (λ s. supply_value s.kind) supplies.now) }
 {
     supplies.iter().map(|s| value_of(s.kind)).collect(alloc)
+}
+
+/// The greatest number of storage nodes.
+const MOST_NODES: usize = 512;
+
+/// The network of a subcircuit, whose input nodes are these inputs and supplies. All other nodes are storage nodes: the
+/// pins in their order, then the nodes of the cards by first appearance as drain, gate or source. A storage node has
+/// strength 1 unless the technology names its size. The values of `pins` in the calls on the network stand in the order
+/// of `inputs`. Where a name stands twice among the inputs and supplies, the first counts.
+pub fn build(
+    alloc: Global,
+    part: &Subcircuit,
+    tech: &Tech,
+    supplies: &[Supply],
+    inputs: &[Text],
+) -> Result<SwitchNet, NetRefusal>
+    requires sizes { All (λ z. (1 ≤ z.strength) × (z.strength ≤ 3)) tech.now.sizes }
+    ensures network { IfOk result (IsNetworkOf part.now tech.now supplies.now inputs.now) }
+    ensures accepted { OnOk result (IsAccepted part.now tech.now supplies.now inputs.now) }
+    ensures refused { IfErr result (IsCause part.now tech.now supplies.now inputs.now) }
+{
+    let pins = part.pins.as_slice();
+    if let Some(place) = double_of(alloc, pins)? {
+        return Err(NetRefusal::SupplyShort(pins[place].0.copied(alloc)?));
+    }
+    let cards = part.transistors.as_slice();
+    let models = tech.models.as_slice();
+    let places = models_of(alloc, cards, models)?;
+    let input_nodes = index_of_inputs(alloc, inputs, supplies)?;
+    let (nodes, ends) = nodes_of(alloc, part, &input_nodes)?;
+    let storage = nodes.names.len();
+    if storage > MOST_NODES {
+        return Err(NetRefusal::TooManyNodes(storage.min(u32::MAX as usize) as u32));
+    }
+    let count = inputs.len() + supplies.len();
+    let strengths = strengths_of(
+        alloc,
+        &nodes.names,
+        count,
+        part.name.as_bytes(),
+        tech.sizes.as_slice(),
+    )?;
+    let transistors = transistors_of(alloc, cards, models, &places, &ends, storage)?;
+    let values = supply_values(alloc, supplies)?;
+    Ok(SwitchNet {
+        names: nodes.names,
+        index: nodes.index,
+        pins: inputs.len(),
+        supplies: values,
+        strengths,
+        transistors,
+    })
 }

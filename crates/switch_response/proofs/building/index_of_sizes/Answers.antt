@@ -4,9 +4,9 @@ use Rattle.circuit.specs.declared.tech.Size.{Size}
 use Rattle.switch_response.specs.NameIndex.{Adds}
 use Rattle.switch_response.specs.Places.{Indexes, is_size_of}
 use Rattle.switch_response.proofs.NameLists.{take_at, added, passed}
-use Rattle.switch_response.proofs.Building.{other_cell, this_cell}
-use Rattle.switch_response.proofs.build.index_of_sizes.Goals as goal
-use Rattle.switch_response.proofs.build.index_of_sizes.Goals.{then-eq+in_ok-add, else-eq}
+use Rattle.switch_response.proofs.CardModels.{other_cell, this_cell}
+use Rattle.switch_response.proofs.building.index_of_sizes.Goals as goal
+use Rattle.switch_response.proofs.building.index_of_sizes.Goals.{then-eq+in_ok-add, else-eq}
 
 pub loop-place-preserved : goal.loop-place-preserved
 loop-place-preserved c =

@@ -2,7 +2,7 @@ use Rattle.std.proofs.Common.{◌≡◌, take, length, None}
 use Rattle.std.specs.Prelude.{find, is_none}
 use Rattle.switch_response.specs.Wiring.{model_of}
 use Rattle.switch_response.specs.Places.{AreModels}
-use Rattle.switch_response.proofs.build.models_of.Given as goal
+use Rattle.switch_response.proofs.building.models_of.Given as goal
 
 abbrev pub invariant-loop-card : goal.invariant-loop-card
 invariant-loop-card l = record {

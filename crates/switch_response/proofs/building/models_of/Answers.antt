@@ -5,8 +5,8 @@ use Rattle.circuit.specs.declared.netlist.Transistor.{Transistor as Card}
 use Rattle.switch_response.specs.NameIndex.{found}
 use Rattle.switch_response.specs.Wiring.{model_of}
 use Rattle.switch_response.specs.Places.{AreModels, IsModelAt}
-use Rattle.switch_response.proofs.Building.{model_found, model_known, model_missing, models_push, find_more, find_here}
-use Rattle.switch_response.proofs.build.models_of.Goals as goal
+use Rattle.switch_response.proofs.CardModels.{model_found, model_known, model_missing, models_push, find_more, find_here}
+use Rattle.switch_response.proofs.building.models_of.Goals as goal
 
 pub returns-in-None-clause-missing : goal.returns-in-None-clause-missing
 returns-in-None-clause-missing c =

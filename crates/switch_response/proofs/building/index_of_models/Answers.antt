@@ -2,7 +2,7 @@ use Rattle.std.proofs.Common.{◌≡◌, ◌<◌, take, length, sym, ◌∙◌, 
 use Rattle.switch_response.specs.NameIndex.{Adds}
 use Rattle.switch_response.specs.Places.{Indexes, is_named}
 use Rattle.switch_response.proofs.NameLists.{take_at, added, eq_back}
-use Rattle.switch_response.proofs.build.index_of_models.Goals as goal
+use Rattle.switch_response.proofs.building.index_of_models.Goals as goal
 
 pub loop-place-preserved : goal.loop-place-preserved
 loop-place-preserved c =
