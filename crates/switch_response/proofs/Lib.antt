@@ -7,3 +7,4 @@ pub mod NameLists
 pub mod CardEnds
 pub mod CardModels
 pub mod BuiltNetwork
+pub mod ArcRows

@@ -7,3 +7,5 @@ pub mod NameIndex
 pub mod Wiring
 pub mod Places
 pub mod Refusals
+pub mod Pile
+pub mod Arcs

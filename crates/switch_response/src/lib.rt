@@ -8,8 +8,10 @@ mod naming;
 mod network;
 mod relax;
 mod response;
+mod stack;
 mod steps;
 mod transistor;
+mod wiring;
 
 pub use building::{NetRefusal, build};
 pub use network::{Scratch, State, SwitchNet, first_change, respond};
