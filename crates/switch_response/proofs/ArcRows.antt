@@ -1,5 +1,5 @@
 -- The arcs of nodes, transistor by transistor.
-use Rattle.std.proofs.Common.{◌≡◌, ℕ, zero, suc, ◌<◌, ◌≢◌, ◌⊎◌, inl, inr, List, [], ◌∷◌, ◌++◌, length, slice_index_or, slice_set, refl, sym, ◌∙◌, ap, subst, arith}
+use Rattle.std.proofs.Common.{◌≡◌, ℕ, zero, suc, ◌<◌, ◌≤◌, ◌≢◌, ◌⊎◌, inl, inr, List, [], ◌∷◌, ◌++◌, length, slice_index_or, slice_set, refl, sym, ◌∙◌, ap, subst, arith}
 use Rattle.std.specs.Prelude.{All, Contains}
 use Rattle.std.proofs.lemmas.List.{get_or-set_same, get_or-set_other}
 use Rattle.std.proofs.lemmas.List.Elements.{Contains-append_left, Contains-push, Contains-push_cases, All-append}
@@ -7,7 +7,8 @@ use native.Mathlib.Decide.{dec_lt}
 use Rattle.switch_response.specs.declared.transistor.Transistor.{Transistor}
 use Rattle.switch_response.specs.declared.wiring.Arc.{Arc}
 use Rattle.switch_response.specs.Walks.{Leads}
-use Rattle.switch_response.specs.Arcs.{IsArcAt, HasArc, AreArcsAt, AddsArc, arc_of}
+use Rattle.switch_response.specs.Spread.{IsWithin}
+use Rattle.switch_response.specs.Arcs.{IsArcAt, HasArc, AreArcsAt, AddsArc, IsArcWithin, arc_of}
 
 abbrev row : List (List Arc) → ℕ → List Arc
 row rows n = slice_index_or rows n []
@@ -91,3 +92,10 @@ arcs_more ts t storage old mid new drain source there back n h =
 -- no transistor
 pub arcs_none : (storage n : ℕ) (arcs : List Arc) → arcs ≡ [] → AreArcsAt [] storage n arcs
 arcs_none storage n arcs e = subst (AreArcsAt [] storage n) (sym e) (record { each = λ k d lt. absurd (omega arith); whole = λ t to among leads stored. absurd (let lt = among.1 in omega arith) })
+
+-- an arc's gate and end are among the nodes
+pub arc_within : (nodes storage node : ℕ) (ts : List Transistor) (x : Arc) → All (IsWithin nodes) ts → storage ≤ nodes → IsArcAt ts storage node x → IsArcWithin nodes x
+arc_within nodes storage node ts x within le arc =
+    let w : IsWithin nodes arc.by = subst (IsWithin nodes) arc.among.2 (within arc.among.0 arc.by arc.among.1) in
+    let gate = w.0 in
+    (omega (arith, arc.is.gate), omega (arith, arc.stored))

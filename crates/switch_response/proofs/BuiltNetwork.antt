@@ -100,7 +100,7 @@ strongest strengths h node = elim (dec_lt node (length strengths)) [
 stands_within : (models : List ModelCard) (nodes : List (List ℕ)) (card : Card) (t : Transistor) → StandsFor models nodes card t → IsWithin (length nodes) t
 stands_within models nodes card t h = (slice_get_within nodes t.gate _ h.gate, slice_get_within nodes t.drain _ h.drain, slice_get_within nodes t.source _ h.source)
 
-all_within : (models : List ModelCard) (nodes : List (List ℕ)) (cards : List Card) (ts : List Transistor) → AllStandFor models nodes cards ts → All (IsWithin (length nodes)) ts
+pub all_within : (models : List ModelCard) (nodes : List (List ℕ)) (cards : List Card) (ts : List Transistor) → AllStandFor models nodes cards ts → All (IsWithin (length nodes)) ts
 all_within models nodes cards [] h k d lt = absurd (omega arith)
 all_within models nodes (card ∷ cards) (t ∷ ts) h zero d lt = stands_within models nodes card t h.0
 all_within models nodes (card ∷ cards) (t ∷ ts) h (suc k) d lt = all_within models nodes cards ts h.1 k d (omega arith)
@@ -108,12 +108,15 @@ all_within models nodes [] (t ∷ ts) h k d lt = absurd h
 
 -- The network
 
+pub count_of_strengths : (sizes : List Size) (cell : List ℕ) (names : List (List ℕ)) (n : ℕ) (strengths : List ℕ) → strengths ≡ map (size_of sizes cell) names ++ replicate n 8 → length strengths ≡ length names + n
+count_of_strengths sizes cell names n strengths is = ap length is ∙ simp (length-append, length-map, length-replicate)
+
 pub is_network : (sizes : List Size) (cell : List ℕ) (models : List ModelCard) (names before : List (List ℕ)) (cards : List Card) (pins : ℕ) (supplies : List Tern) (strengths : List ℕ) (ts : List Transistor)
     → All (λ z. (1 ≤ z.strength) × (z.strength ≤ 3)) sizes → strengths ≡ map (size_of sizes cell) names ++ replicate (length before) 8 → length before ≡ pins + length supplies
     → AllStandFor models (names ++ before) cards ts → IsNetwork (record { names = names; pins = pins; supplies = supplies; net = net (length names) strengths ts })
 is_network sizes cell models names before cards pins supplies strengths ts ok is count stand =
     let all : All IsStrength strengths = subst (All IsStrength) (sym is) (are_strengths sizes cell names (length before) ok) in
-    let nodes : length strengths ≡ length names + length before = ap length is ∙ simp (length-append, length-map, length-replicate) in
+    let nodes : length strengths ≡ length names + length before = count_of_strengths sizes cell names (length before) strengths is in
     let both : length (names ++ before) ≡ length strengths = length-append names before ∙ sym nodes in
     record {
       network = record {

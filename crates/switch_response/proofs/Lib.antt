@@ -8,3 +8,4 @@ pub mod CardEnds
 pub mod CardModels
 pub mod BuiltNetwork
 pub mod ArcRows
+pub mod Relaxation

@@ -1,20 +1,19 @@
 -- Steps of a spread keep it sound, and where none is left it is the strongest.
-use Rattle.std.proofs.Common.{◌≡◌, ℕ, ◌+◌, ◌-◌, ◌<◌, ◌≤◌, ◌≢◌, ◌⊎◌, inl, inr, Bool, true, false, IsTrue, IsFalse, List, [], ◌∷◌, min, length, slice_index, slice_index_or, slice_set, refl, sym, ◌∙◌, ap, subst, arith}
-use Rattle.std.specs.Prelude.{Contains, sum_by}
+use Rattle.std.proofs.Common.{◌≡◌, ℕ, ◌+◌, ◌-◌, ◌<◌, ◌≤◌, ◌≢◌, ◌⊎◌, inl, inr, List, [], ◌∷◌, min, length, slice_index, slice_set, refl, sym, ◌∙◌, ap, subst, arith}
+use Rattle.std.specs.Prelude.{sum_by}
 use Rattle.std.proofs.lemmas.List.{get_or-set_same, get_or-set_other}
 use Rattle.std.proofs.Math.ListN.{length-set}
-use Rattle.std.proofs.lemmas.List.Elements.{Contains-get_or}
 use Rattle.std.proofs.lemmas.List.Sums.{sum_by-set}
 use Rattle.switch_response.specs.declared.transistor.Transistor.{Transistor}
-use Rattle.switch_response.specs.Walks.{Step, end_of, Leads, value_at}
-use Rattle.switch_response.specs.Spread.{Ground, opens, Crosses, carried, IsAdmitted, IsReachedWith, IsSound, IsSpread, Improves, Steps, still, then, IsIdle, room, Carried, NotCarried, IsIdleAt}
+use Rattle.switch_response.specs.Walks.{Step, end_of}
+use Rattle.switch_response.specs.Spread.{Ground, Crosses, carried, IsAdmitted, IsReachedWith, IsSound, IsSpread, Improves, Steps, still, then, IsIdle, room}
 use native.Mathlib.Decide.{dec_lt}
 
 seeds_sound : (g : Ground) (seeds : List ℕ) → IsSound g seeds seeds
 seeds_sound g seeds node h = record { root = node; steps = []; admitted = h; reaches = refl; carries = refl }
 
 -- at each node but the changed one
-at_node : (xs : List ℕ) (i v j : ℕ) → i < length xs → ((j ≡ i) × (slice_index (slice_set xs i v) j ≡ v)) ⊎ ((j ≢ i) × (slice_index (slice_set xs i v) j ≡ slice_index xs j))
+pub at_node : (xs : List ℕ) (i v j : ℕ) → i < length xs → ((j ≡ i) × (slice_index (slice_set xs i v) j ≡ v)) ⊎ ((j ≢ i) × (slice_index (slice_set xs i v) j ≡ slice_index xs j))
 at_node xs i v j lt = elim (dec_lt j i) [
   | yes h ↦ let ne : j ≢ i = omega arith in inr (ne, get_or-set_other xs i j v 0 ne)
   | no h ↦ elim (dec_lt i j) [
@@ -76,8 +75,8 @@ pub improve_room : (g : Ground) (old new : List ℕ) → Improves g old new → 
 unfolding room
 improve_room g old new h =
     let v : ℕ = min (slice_index old h.start) h.by.strength in
-    let e : room new ≡ sum_by (λ b. 256 - b) (slice_set old h.to v) = ap (λ xs. sum_by (λ b. 256 - b) xs) h.is in
-    let k : sum_by (λ b. 256 - b) (slice_set old h.to v) + (256 - slice_index old h.to) ≡ sum_by (λ b. 256 - b) old + (256 - v) = sum_by-set (λ b. 256 - b) old h.to v 0 h.within in
+    let e : room new ≡ sum_by (λ b. 8 - b) (slice_set old h.to v) = ap (λ xs. sum_by (λ b. 8 - b) xs) h.is in
+    let k : sum_by (λ b. 8 - b) (slice_set old h.to v) + (8 - slice_index old h.to) ≡ sum_by (λ b. 8 - b) old + (8 - v) = sum_by-set (λ b. 8 - b) old h.to v 0 h.within in
     omega (arith, h.greater, h.fits)
 
 pub steps_room : (g : Ground) (a b : List ℕ) → Steps g a b → room b ≤ room a
@@ -106,36 +105,3 @@ spread_of g seeds best s idle = record {
   sound = steps_sound g seeds seeds best s (seeds_sound g seeds);
   most = most_of_idle g seeds best (steps_grow g seeds best s) idle;
 }
-
--- what one carry along an open transistor does
-pub carry_steps : (g : Ground) (t : Transistor) (a b : ℕ) (old new : List ℕ) (r : Bool) → Contains g.transistors t → IsTrue (opens g.definite t.channel (value_at g.values t.gate)) → Leads t a b → b < length old
-    → (IsTrue r → Carried g.floor g.storage a b t.strength old new)
-    → (IsFalse r → NotCarried g.floor g.storage a b t.strength old new)
-    → Steps g old new × (IsTrue r → room new < room old)
-carry_steps g t a b old new true within opened leads lt hit miss =
-    let h = hit refl in
-    let i : Improves g old new = record { by = t; start = a; to = b; crosses = (within, opened, leads, h.0); within = lt; floor = h.1; greater = h.2; fits = h.3; is = h.4 } in
-    (then still i, λ q. improve_room g old new i)
-carry_steps g t a b old new false within opened leads lt hit miss =
-    (subst (Steps g old) (sym (miss refl).0) still, λ q. absurd (let e : false ≡ true = q in cc))
-
--- both carries along one transistor
-pub cross_steps : (g : Ground) (at : ℕ) (d : Transistor) (first second third : List ℕ) (r q : Bool) → at < length g.transistors
-    → IsTrue (opens g.definite (slice_index_or g.transistors at d).channel (value_at g.values (slice_index_or g.transistors at d).gate))
-    → (slice_index_or g.transistors at d).source < length first → (slice_index_or g.transistors at d).drain < length second
-    → (IsTrue r → Carried g.floor g.storage (slice_index_or g.transistors at d).drain (slice_index_or g.transistors at d).source (slice_index_or g.transistors at d).strength first second)
-    → (IsFalse r → NotCarried g.floor g.storage (slice_index_or g.transistors at d).drain (slice_index_or g.transistors at d).source (slice_index_or g.transistors at d).strength first second)
-    → (IsTrue q → Carried g.floor g.storage (slice_index_or g.transistors at d).source (slice_index_or g.transistors at d).drain (slice_index_or g.transistors at d).strength second third)
-    → (IsFalse q → NotCarried g.floor g.storage (slice_index_or g.transistors at d).source (slice_index_or g.transistors at d).drain (slice_index_or g.transistors at d).strength second third)
-    → Steps g first third × (IsTrue r → room third < room first) × (IsTrue q → room third < room first)
-cross_steps g at d first second third r q lt opened src drn hit miss hit2 miss2 =
-    let t : Transistor = slice_index_or g.transistors at d in
-    let within : Contains g.transistors t = Contains-get_or g.transistors at d lt in
-    let x = carry_steps g t t.drain t.source first second r within opened (inl (refl, refl)) src hit miss in
-    let y = carry_steps g t t.source t.drain second third q within opened (inr (refl, refl)) drn hit2 miss2 in
-    let less : room second ≤ room first = steps_room g first second x.0 in
-    let less2 : room third ≤ room second = steps_room g second third y.0 in
-    (steps_join g first second third x.0 y.0, λ e. omega (arith, x.1 e), λ e. omega (arith, y.1 e))
-
-pub idle_all : (g : Ground) (best : List ℕ) → ((k : ℕ) → k < length g.transistors → IsIdleAt g best k) → (t : Transistor) (a b : ℕ) → IsIdle g best t a b
-idle_all g best all t a b crosses = (subst (λ u. IsIdle g best u a b) crosses.0.2 (all crosses.0.0 crosses.0.1 t a b)) crosses

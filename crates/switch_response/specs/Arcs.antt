@@ -51,3 +51,7 @@ arc_of t to = record { channel = t.channel; strength = t.strength; gate = t.gate
 pub record AddsArc (old new : List (List Arc)) (t : Transistor) (start to storage : ℕ) : Type 0 where
   pub inside : to < storage → new ≡ slice_set old start (slice_index_or old start [] ++ arc_of t to ∷ [])
   pub outside : storage ≤ to → new ≡ old
+
+-- its gate and its end are among so many nodes
+abbrev pub IsArcWithin : ℕ → Arc → Type 0
+IsArcWithin nodes x = (x.gate < nodes) × (x.to < nodes)

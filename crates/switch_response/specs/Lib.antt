@@ -9,3 +9,4 @@ pub mod Places
 pub mod Refusals
 pub mod Pile
 pub mod Arcs
+pub mod Relaxing

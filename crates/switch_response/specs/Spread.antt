@@ -1,5 +1,5 @@
 -- The strongest walks from given seeds, where each node that they reach has a floor.
-use Rattle.std.specs.Prelude.{◌≡◌, ℕ, ◌<◌, ◌≤◌, Bool, true, false, IsTrue, List, [], ◌∷◌, Contains, min, length, slice_index, slice_index_or, slice_set, sum_by, ◌-◌}
+use Rattle.std.specs.Prelude.{◌≡◌, ℕ, ◌<◌, ◌≤◌, Bool, true, false, IsTrue, List, [], ◌∷◌, Contains, min, length, slice_index, slice_set, sum_by, ◌-◌}
 use Rattle.tern_core.specs.declared.tern.Tern.{Tern}
 use Rattle.switch_response.specs.declared.transistor.Channel.{Channel}
 use Rattle.switch_response.specs.declared.transistor.Transistor.{Transistor}
@@ -57,7 +57,7 @@ pub record Improves (g : Ground) (old new : List ℕ) : Type 0 where
   pub within : to < length old
   pub floor : slice_index g.floor to ≤ min (slice_index old start) by.strength
   pub greater : slice_index old to < min (slice_index old start) by.strength
-  pub fits : min (slice_index old start) by.strength < 256
+  pub fits : min (slice_index old start) by.strength ≤ 8
   pub is : new ≡ slice_set old to (min (slice_index old start) by.strength)
 
 pub data Steps (g : Ground) : List ℕ → List ℕ → Type 0 where
@@ -72,22 +72,9 @@ IsIdle g best t a b = Crosses g t a b → slice_index g.floor b ≤ min (slice_i
 abbrev pub IsWithin : ℕ → Transistor → Type 0
 IsWithin nodes t = (t.gate < nodes) × (t.drain < nodes) × (t.source < nodes)
 
--- the transistor at this place improves nothing
-abbrev pub IsIdleAt : Ground → List ℕ → ℕ → Type 0
-IsIdleAt g best k = (d : Transistor) (a b : ℕ) → IsIdle g best (slice_index_or g.transistors k d) a b
-
 -- how much the strengths can still grow
 unfoldable pub room : List ℕ → ℕ
-room best = sum_by (λ b. 256 - b) best
+room best = sum_by (λ b. 8 - b) best
 
 abbrev pub ground : List Transistor → ℕ → List Tern → Bool → List ℕ → Ground
 ground transistors storage values definite floor = record { transistors = transistors; storage = storage; values = values; definite = definite; floor = floor }
-
-abbrev pub Carried : List ℕ → ℕ → ℕ → ℕ → ℕ → List ℕ → List ℕ → Type 0
-Carried floor storage start to strength old new =
-    (to < storage) × (slice_index floor to ≤ min (slice_index old start) strength) × (slice_index old to < min (slice_index old start) strength)
-    × (min (slice_index old start) strength < 256) × (new ≡ slice_set old to (min (slice_index old start) strength))
-
-abbrev pub NotCarried : List ℕ → ℕ → ℕ → ℕ → ℕ → List ℕ → List ℕ → Type 0
-NotCarried floor storage start to strength old new =
-    (new ≡ old) × (to < storage → slice_index floor to ≤ min (slice_index old start) strength → min (slice_index old start) strength ≤ slice_index old to)

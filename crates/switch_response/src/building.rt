@@ -10,6 +10,7 @@ use crate::name_index::NameIndex;
 use crate::naming::{Ends, double_of, index_of_inputs, nodes_of};
 use crate::network::SwitchNet;
 use crate::transistor::{Channel, Transistor};
+use crate::wiring::Wiring;
 use circuit::{ModelCard, Size, Subcircuit, Supply, Tech, Transistor as Card};
 use std::alloc::{AllocError, AllocFailed, Global};
 use tern_core::Tern;
@@ -252,6 +253,7 @@ pub fn build(
         tech.sizes.as_slice(),
     )?;
     let transistors = transistors_of(alloc, cards, models, &places, &ends, storage)?;
+    let wiring = Wiring::new(alloc, transistors, storage, storage + count)?;
     let values = supply_values(alloc, supplies)?;
     Ok(SwitchNet {
         names: nodes.names,
@@ -259,6 +261,6 @@ pub fn build(
         pins: inputs.len(),
         supplies: values,
         strengths,
-        transistors,
+        wiring,
     })
 }

@@ -1,6 +1,6 @@
 //! Networks, their states, and the room that a response takes.
 
-ghost use Rattle.std.specs.Prelude.{◌≡◌, ◌≤◌, ◌<◌, ◌+◌, ◌++◌, ℕ, List, length, slice_set, slice_get, IfOk, Some, replicate, MatchOption, Contains};
+ghost use Rattle.std.specs.Prelude.{◌≡◌, ◌≤◌, ◌<◌, ◌+◌, ◌*◌, ◌^◌, ◌++◌, ℕ, List, length, slice_set, slice_get, IfOk, Some, replicate, MatchOption, Contains};
 ghost use Rattle.std.specs.Str.{bytes_eq};
 ghost use Rattle.switch_response.specs.Places.{Indexes};
 ghost use Rattle.tern_core.specs.declared.tern.Tern.{Tern};
@@ -9,8 +9,8 @@ ghost use Rattle.switch_response.specs.Network.{Network, IsNetwork, all_values, 
 ghost use Rattle.switch_response.specs.Differences.{IsFirstDifference};
 
 use crate::name_index::NameIndex;
-use crate::response::respond_over;
-use crate::transistor::Transistor;
+use crate::response::Levels;
+use crate::wiring::Wiring;
 use std::alloc::Global;
 use std::marker::Model;
 use tern_core::Tern;
@@ -24,15 +24,15 @@ pub struct SwitchNet {
     pub(crate) pins: usize,
     pub(crate) supplies: Vec<Tern>,
     pub(crate) strengths: Vec<u8>,
-    pub(crate) transistors: Vec<Transistor>,
+    pub(crate) wiring: Wiring,
 }
 
 impl Model for SwitchNet {
     ghost Value = { Network };
 
-    ghost view = { λ s. record { names = s.names.items; pins = s.pins; supplies = s.supplies.items; net = net (length s.names.items) s.strengths.items s.transistors.items } };
+    ghost view = { λ s. record { names = s.names.items; pins = s.pins; supplies = s.supplies.items; net = net (length s.names.items) s.strengths.items s.wiring.transistors } };
 
-    ghost invariant = { λ s. IsNetwork (record { names = s.names.items; pins = s.pins; supplies = s.supplies.items; net = net (length s.names.items) s.strengths.items s.transistors.items }) × Indexes bytes_eq s.names.items s.index };
+    ghost invariant = { λ s. IsNetwork (record { names = s.names.items; pins = s.pins; supplies = s.supplies.items; net = net (length s.names.items) s.strengths.items s.wiring.transistors }) × Indexes bytes_eq s.names.items s.index × (s.wiring.storage ≡ length s.names.items) × (s.wiring.nodes ≡ length s.strengths.items) × (9 * length s.strengths.items < 2 ^ 64) };
 }
 
 /// The values of a network's storage nodes.
@@ -51,9 +51,7 @@ impl Model for State {
 #[derive(Drop)]
 pub struct Scratch {
     values: Vec<Tern>,
-    definite: Vec<u8>,
-    ones: Vec<u8>,
-    zeros: Vec<u8>,
+    levels: Levels,
     next: Vec<Tern>,
 }
 
@@ -62,7 +60,7 @@ impl Model for Scratch {
 
     ghost view = { λ s. record { nodes = length s.values.items; next = s.next.items } };
 
-    ghost invariant = { λ s. (length s.definite.items ≡ length s.values.items) × (length s.ones.items ≡ length s.values.items) × (length s.zeros.items ≡ length s.values.items) };
+    ghost invariant = { λ s. s.levels ≡ length s.values.items };
 }
 
 impl SwitchNet {
@@ -133,9 +131,7 @@ impl Scratch {
         let nodes = net.strengths.len();
         Ok(Scratch {
             values: vec![in alloc; Tern::Unknown; nodes]?,
-            definite: vec![in alloc; 0u8; nodes]?,
-            ones: vec![in alloc; 0u8; nodes]?,
-            zeros: vec![in alloc; 0u8; nodes]?,
+            levels: Levels::new(alloc, nodes)?,
             next: vec![in alloc; Tern::Unknown; net.names.len()]?,
         })
     }
@@ -166,6 +162,24 @@ fn first_difference(a: &[Tern], b: &[Tern]) -> Option<usize>
     None
 }
 
+/// Makes the response of the network in the scratch.
+fn make_response(net: &SwitchNet, pins: &[Tern], state: &State, scratch: &mut Scratch)
+    requires pins { length pins.now ≡ net.now.pins }
+    requires state { length state.now ≡ net.now.net.storage }
+    requires scratch { IsRoomFor net.now scratch.old }
+    ensures response { IsResponse net.now.net (all_values net.now state.now pins.now) scratch.new.next }
+    ensures walks { (node : ℕ) → node < net.now.net.storage → HasArrival net.now.net (all_values net.now state.now pins.now) node }
+    ensures scratch { IsRoomFor net.now scratch.new }
+{
+    gather(&state.nodes, pins, &net.supplies, &mut scratch.values);
+    scratch.levels.respond(
+        &net.wiring,
+        &net.strengths,
+        &scratch.values,
+        &mut scratch.next,
+    );
+}
+
 /// The response of the network: what each storage node becomes, where the input pins have these values.
 pub fn respond(
     net: &SwitchNet,
@@ -183,17 +197,8 @@ pub fn respond(
     ensures walks { (node : ℕ) → node < net.now.net.storage → HasArrival net.now.net (all_values net.now state.now pins.now) node }
     ensures scratch { IsRoomFor net.now scratch.new }
 {
-    gather(&state.nodes, pins, &net.supplies, &mut scratch.values);
-    respond_over(
-        &net.transistors,
-        net.names.len(),
-        &net.strengths,
-        &scratch.values,
-        &mut scratch.definite,
-        &mut scratch.ones,
-        &mut scratch.zeros,
-        &mut next.nodes,
-    );
+    make_response(net, pins, state, scratch);
+    next.advance(scratch);
 }
 
 /// Makes the response in the scratch. Answers the first node at which it differs from the state.
@@ -210,16 +215,6 @@ pub fn first_change(
     ensures change { MatchOption result (scratch.new.next ≡ state.now) (λ node. (node < net.now.net.storage) × IsFirstDifference state.now scratch.new.next node) }
     ensures scratch { IsRoomFor net.now scratch.new }
 {
-    gather(&state.nodes, pins, &net.supplies, &mut scratch.values);
-    respond_over(
-        &net.transistors,
-        net.names.len(),
-        &net.strengths,
-        &scratch.values,
-        &mut scratch.definite,
-        &mut scratch.ones,
-        &mut scratch.zeros,
-        &mut scratch.next,
-    );
+    make_response(net, pins, state, scratch);
     first_difference(&state.nodes, &scratch.next)
 }

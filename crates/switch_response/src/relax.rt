@@ -1,10 +1,12 @@
 //! The strongest walks from given seeds.
 
-ghost use Rattle.std.specs.Prelude.{◌≡◌, ◌≤◌, ◌<◌, ℕ, length, IsTrue, IsFalse, ◌↔◌, min, slice_index, slice_set, slice_index_or, Contains, All};
-ghost use Rattle.switch_response.specs.Walks.{is_on, is_passing, value_at, Leads};
-ghost use Rattle.switch_response.specs.Spread.{Ground, opens, Crosses, Improves, Steps, IsIdle, IsSpread, IsWithin, IsIdleAt, room, ground, Carried, NotCarried};
+ghost use Rattle.std.specs.Prelude.{◌≡◌, ◌≤◌, ◌<◌, ◌⊎◌, ◌*◌, ◌+◌, ℕ, All, length, slice_index};
+ghost use Rattle.switch_response.specs.Spread.{opens, IsSpread, ground, room};
+ghost use Rattle.switch_response.specs.Relaxing.{Carries, Stays, IsGrown, IsIdleFrom};
 
-use crate::transistor::{Channel, Transistor};
+use crate::stack::Stack;
+use crate::transistor::Channel;
+use crate::wiring::{Arc, Wiring};
 use tern_core::Tern;
 
 /// Whether a walk may pass a transistor whose gate has this value.
@@ -18,100 +20,71 @@ fn passes(definite: bool, channel: Channel, gate: Tern) -> bool
     }
 }
 
-/// Carries the strength of a node along a transistor that may be passed to another node.
-fn carry(
-    start: usize,
-    to: usize,
-    strength: u8,
-    storage: usize,
-    floor: &[u8],
-    best: &mut [u8],
-) -> bool
-    requires start { start < length best.old }
-    requires to { to < length best.old }
+/// Carries a node's strength along an arc that may be passed. The node at its end waits where it got stronger.
+fn carry(arc: &Arc, strength: u8, floor: &[u8], best: &mut [u8], waiting: &mut Stack)
+    requires to { arc.now.to < length best.old }
     requires floor { length floor.now ≡ length best.old }
-    ensures carried { IsTrue result → Carried floor.now storage start to strength best.old best.new }
-    ensures idle { IsFalse result → NotCarried floor.now storage start to strength best.old best.new }
+    requires strength { strength ≤ 8 }
+    requires room { length waiting.old.items + room best.old ≤ waiting.old.capacity }
+    ensures carried { Carries floor.now strength arc.now best.old waiting.old.items best.new waiting.new.items ⊎ Stays floor.now strength arc.now best.old waiting.old.items best.new waiting.new.items }
+    ensures capacity { waiting.new.capacity ≡ waiting.old.capacity }
 {
-    let reached = if best[start] < strength {
-        best[start]
-    } else {
-        strength
-    };
-    if to < storage && floor[to] <= reached && best[to] < reached {
-        best[to] = reached;
-        true
-    } else {
-        false
+    let reached = strength.min(arc.strength);
+    if floor[arc.to] <= reached && best[arc.to] < reached {
+        best[arc.to] = reached;
+        waiting.push(arc.to);
     }
 }
 
-/// Carries strengths along one transistor, both ways. Says whether that changed anything.
-fn cross(
-    transistors: &[Transistor],
-    at: usize,
-    storage: usize,
+/// Carries a node's strength along each of its arcs that may be passed.
+fn leave(
+    wiring: &Wiring,
+    node: usize,
     values: &[Tern],
     definite: bool,
     floor: &[u8],
     best: &mut [u8],
-) -> bool
-    requires at { at < length transistors.now }
-    requires within { All (IsWithin (length best.old)) transistors.now }
-    requires values { length values.now ≡ length best.old }
-    requires floor { length floor.now ≡ length best.old }
-    ensures steps { Steps (ground transistors.now storage values.now definite floor.now) best.old best.new }
-    ensures less { IsTrue result → room best.new < room best.old }
-    ensures same { IsFalse result → best.new ≡ best.old }
-    ensures idle { IsFalse result → IsIdleAt (ground transistors.now storage values.now definite floor.now) best.new at }
+    waiting: &mut Stack,
+)
+    requires node { node < wiring.now.nodes }
+    requires values { length values.now ≡ wiring.now.nodes }
+    requires floor { length floor.now ≡ wiring.now.nodes }
+    requires best { length best.old ≡ wiring.now.nodes }
+    requires bounded { All (λ b. b ≤ 8) best.old }
+    requires within { All (λ a. a < length best.old) waiting.old.items }
+    requires room { length waiting.old.items + room best.old ≤ waiting.old.capacity }
+    ensures grows { IsGrown (ground wiring.now.transistors wiring.now.storage values.now definite floor.now) best.old best.new waiting.old.items waiting.new.items }
+    ensures idle { IsIdleFrom (ground wiring.now.transistors wiring.now.storage values.now definite floor.now) best.new node }
+    ensures capacity { waiting.new.capacity ≡ waiting.old.capacity }
 {
-    let t = transistors[at];
-    if !passes(definite, t.channel, values[t.gate]) {
-        return false;
-    }
-    let there = carry(t.drain, t.source, t.strength, storage, floor, best);
-    let back = carry(t.source, t.drain, t.strength, storage, floor, best);
-    there || back
-}
-
-/// Carries strengths along each transistor once, both ways. Says whether that changed anything.
-fn pass(
-    transistors: &[Transistor],
-    storage: usize,
-    values: &[Tern],
-    definite: bool,
-    floor: &[u8],
-    best: &mut [u8],
-) -> bool
-    requires within { All (IsWithin (length best.old)) transistors.now }
-    requires values { length values.now ≡ length best.old }
-    requires floor { length floor.now ≡ length best.old }
-    ensures steps { Steps (ground transistors.now storage values.now definite floor.now) best.old best.new }
-    ensures less { IsTrue result → room best.new < room best.old }
-    ensures idle { IsFalse result → (k : ℕ) → k < length transistors.now → IsIdleAt (ground transistors.now storage values.now definite floor.now) best.new k }
-{
-    let mut changed = false;
-    for at in 0..transistors.len() {
-        if cross(transistors, at, storage, values, definite, floor, best) {
-            changed = true;
+    let strength = best[node];
+    for arc in wiring.arcs_at(node) {
+        if passes(definite, arc.channel, values[arc.gate]) {
+            carry(arc, strength, floor, best, waiting);
         }
     }
-    changed
 }
 
-/// Leaves the strength of the strongest walk to each node, from the seeds that it is given.
+/// Leaves the strength of the strongest walk to each node, from the seeds that it is given. Each node waits once at the
+/// beginning, and again each time that it gets stronger.
 pub fn spread(
-    transistors: &[Transistor],
-    storage: usize,
+    wiring: &Wiring,
     values: &[Tern],
     definite: bool,
     floor: &[u8],
     best: &mut [u8],
+    waiting: &mut Stack,
 )
-    requires within { All (IsWithin (length best.old)) transistors.now }
-    requires values { length values.now ≡ length best.old }
-    requires floor { length floor.now ≡ length best.old }
-    ensures { IsSpread (ground transistors.now storage values.now definite floor.now) best.old best.new }
+    requires values { length values.now ≡ wiring.now.nodes }
+    requires floor { length floor.now ≡ wiring.now.nodes }
+    requires best { length best.old ≡ wiring.now.nodes }
+    requires bounded { All (λ b. b ≤ 8) best.old }
+    requires room { 9 * wiring.now.nodes ≤ waiting.old.capacity }
+    ensures spread { IsSpread (ground wiring.now.transistors wiring.now.storage values.now definite floor.now) best.old best.new }
+    ensures capacity { waiting.new.capacity ≡ waiting.old.capacity }
 {
-    'passes: while pass(transistors, storage, values, definite, floor, best) {}
+    waiting.fill(wiring.nodes());
+    'nodes: while let Some(node) = waiting.pop() {
+        leave(wiring, node, values, definite, floor, best, waiting);
+    }
 }

@@ -2,7 +2,7 @@
 
 ghost use Rattle.std.specs.Prelude.{◌≡◌, ◌≤◌, ◌<◌, ◌+◌, [], ◌∷◌, ◌++◌, ℕ, List, All, map, length, take, slice_index_or, IfOk, OnOk};
 ghost use Rattle.switch_response.specs.Spread.{IsWithin};
-ghost use Rattle.switch_response.specs.Arcs.{Wires, AreArcs, AreArcsAt, AddsArc};
+ghost use Rattle.switch_response.specs.Arcs.{Wires, AreArcs, AreArcsAt, AddsArc, IsArcWithin};
 
 use crate::transistor::{Channel, Transistor};
 use std::alloc::Global;
@@ -104,5 +104,23 @@ impl Wiring {
             storage,
             arcs,
         })
+    }
+
+    /// How many nodes there are.
+    pub fn nodes(&self) -> usize
+        ensures count { result ≡ self.now.nodes }
+        ensures storage { self.now.storage ≤ self.now.nodes }
+        ensures within { All (IsWithin self.now.nodes) self.now.transistors }
+    {
+        self.arcs.len()
+    }
+
+    /// The arcs of one node.
+    pub fn arcs_at(&self, node: usize) -> &[Arc]
+        requires { node < self.now.nodes }
+        ensures arcs { AreArcsAt self.now.transistors self.now.storage node result.now }
+        ensures within { All (IsArcWithin self.now.nodes) result.now }
+    {
+        &self.arcs[node]
     }
 }

@@ -4,9 +4,12 @@ use Rattle.std.proofs.lemmas.List.{length-map}
 use Rattle.circuit.specs.declared.tech.Supply.{Supply}
 use Rattle.switch_response.specs.Wiring.{input_nodes, size_of, supply_value, AllStandFor}
 use Rattle.switch_response.specs.Places.{AreModels, AreAllEnds, HasNumbers}
-use Rattle.switch_response.proofs.BuiltNetwork.{have_numbers, is_network}
+use Rattle.switch_response.specs.declared.transistor.Transistor.{Transistor}
+use Rattle.switch_response.specs.Spread.{IsWithin}
+use Rattle.switch_response.specs.Arcs.{Wires}
+use Rattle.switch_response.proofs.BuiltNetwork.{have_numbers, all_within, count_of_strengths, is_network}
 use Rattle.switch_response.proofs.building.build.Goals as goal
-use Rattle.switch_response.proofs.building.build.Goals.{In_ok-values}
+use Rattle.switch_response.proofs.building.build.Goals.{In_ok-transistors, In_ok-values}
 
 pub transistors_of-requires-clause-models : goal.transistors_of-requires-clause-models
 transistors_of-requires-clause-models c = subst (AreModels c.as_slice-models.result.now c.as_slice-cards.result.now) (sym c.deref-2.ensures.value) c.in_ok-places.ensures.models
@@ -30,7 +33,7 @@ strengths c =
     ∙ ap (λ xs. map (size_of c.args.tech.now.sizes c.args.part.now.name) xs ++ replicate (length c.args.inputs.now + length c.args.supplies.now) 8) c.deref.ensures.value
     ∙ ap (λ n. map (size_of c.args.tech.now.sizes c.args.part.now.name) c.in_ok-nodes.nodes.names.items ++ replicate n 8) (sym (many c.args.inputs.now c.args.supplies.now))
 
-transistors : (c : In_ok-values) → AllStandFor c.args.tech.now.models (c.in_ok-nodes.nodes.names.items ++ input_nodes c.args.inputs.now c.args.supplies.now) c.args.part.now.transistors c.in_ok-transistors.transistors.items
+transistors : (c : In_ok-transistors) → AllStandFor c.args.tech.now.models (c.in_ok-nodes.nodes.names.items ++ input_nodes c.args.inputs.now c.args.supplies.now) c.args.part.now.transistors c.in_ok-transistors.transistors.items
 transistors c =
     let inputs : List (List ℕ) = input_nodes c.args.inputs.now c.args.supplies.now in
     let names : List (List ℕ) = c.in_ok-nodes.nodes.names.items in
@@ -42,13 +45,36 @@ transistors c =
     (subst (λ cards. AllStandFor c.as_slice-models.result.now (names ++ inputs) cards c.in_ok-transistors.transistors.items) c.as_slice-cards.ensures
     (c.in_ok-transistors.ensures names inputs storage ends))
 
+wired : (c : In_ok-values) (ts : List Transistor) → AllStandFor c.args.tech.now.models (c.in_ok-nodes.nodes.names.items ++ input_nodes c.args.inputs.now c.args.supplies.now) c.args.part.now.transistors ts
+    → c.in_ok-wiring.wiring.transistors ≡ ts → AllStandFor c.args.tech.now.models (c.in_ok-nodes.nodes.names.items ++ input_nodes c.args.inputs.now c.args.supplies.now) c.args.part.now.transistors c.in_ok-wiring.wiring.transistors
+wired c ts stand is = subst (AllStandFor c.args.tech.now.models (c.in_ok-nodes.nodes.names.items ++ input_nodes c.args.inputs.now c.args.supplies.now) c.args.part.now.transistors) (sym is) stand
+
+pub new-requires-clause-within : goal.new-requires-clause-within
+new-requires-clause-within c =
+    let inputs : List (List ℕ) = input_nodes c.args.inputs.now c.args.supplies.now in
+    let names : List (List ℕ) = c.in_ok-nodes.nodes.names.items in
+    let storage : length names ≡ c.len-storage.result = search rules in
+    let count : length (names ++ inputs) ≡ c.len-storage.result + (length c.args.inputs.now + length c.args.supplies.now) =
+    length-append names inputs ∙ ap (λ n. n + length inputs) storage ∙ ap (λ n. c.len-storage.result + n) (many c.args.inputs.now c.args.supplies.now) in
+    subst (λ n. All (IsWithin n) c.in_ok-transistors.transistors.items) count
+    (all_within c.args.tech.now.models (names ++ inputs) c.args.part.now.transistors c.in_ok-transistors.transistors.items (transistors c))
+
 pub invariant_of-result : goal.invariant_of-result
 invariant_of-result c =
-    let supplies : length c.in_ok-values.values.items ≡ length c.args.supplies.now = ap length c.in_ok-values.ensures ∙ length-map c.args.supplies.now (λ s. supply_value s.kind) in (
-      is_network c.args.tech.now.sizes c.args.part.now.name c.args.tech.now.models c.in_ok-nodes.nodes.names.items (input_nodes c.args.inputs.now c.args.supplies.now) c.args.part.now.transistors
-          (length c.args.inputs.now) c.in_ok-values.values.items c.in_ok-strengths.strengths.items c.in_ok-transistors.transistors.items c.requires.sizes (strengths c)
-          (many c.args.inputs.now c.args.supplies.now ∙ ap (λ n. length c.args.inputs.now + n) (sym supplies)) (transistors c),
+    let inputs : List (List ℕ) = input_nodes c.args.inputs.now c.args.supplies.now in
+    let names : List (List ℕ) = c.in_ok-nodes.nodes.names.items in
+    let supplies : length c.in_ok-values.values.items ≡ length c.args.supplies.now = ap length c.in_ok-values.ensures ∙ length-map c.args.supplies.now (λ s. supply_value s.kind) in
+    let storage : c.len-storage.result ≡ length names = search rules in
+    let count : length c.in_ok-strengths.strengths.items ≡ c.len-storage.result + (length c.args.inputs.now + length c.args.supplies.now) =
+    count_of_strengths c.args.tech.now.sizes c.args.part.now.name names (length inputs) c.in_ok-strengths.strengths.items (strengths c) ∙ ap (λ n. n + length inputs) (sym storage) ∙ ap (λ n. c.len-storage.result + n) (many c.args.inputs.now c.args.supplies.now) in
+    let stand = transistors (goal.at.invariant_of-result c).In_ok-transistors in (
+      is_network c.args.tech.now.sizes c.args.part.now.name c.args.tech.now.models names inputs c.args.part.now.transistors
+          (length c.args.inputs.now) c.in_ok-values.values.items c.in_ok-strengths.strengths.items c.in_ok-wiring.wiring.transistors c.requires.sizes (strengths c)
+          (many c.args.inputs.now c.args.supplies.now ∙ ap (λ n. length c.args.inputs.now + n) (sym supplies)) (wired c c.in_ok-transistors.transistors.items stand (ap (λ (w : Wires). w.transistors) c.in_ok-wiring.ensures)),
       c.in_ok-nodes.ensures.index,
+      ap (λ (w : Wires). w.storage) c.in_ok-wiring.ensures ∙ storage,
+      ap (λ (w : Wires). w.nodes) c.in_ok-wiring.ensures ∙ sym count,
+      omega (arith, count),
     )
 
 pub returns-clause-network : goal.returns-clause-network
@@ -60,5 +86,5 @@ returns-clause-network c =
       pins = refl;
       supply_values = c.in_ok-values.ensures;
       strengths = strengths v;
-      transistors = transistors v;
+      transistors = wired v c.in_ok-transistors.transistors.items (transistors (goal.at.returns-clause-network c).In_ok-transistors) (ap (λ (w : Wires). w.transistors) c.in_ok-wiring.ensures);
     }
