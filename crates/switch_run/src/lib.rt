@@ -5,3 +5,6 @@ pub mod laws;
 mod waiting;
 
 pub use waiting::{RESPONSES, Rest, wait};
+
+#[cfg(test)]
+mod tests;
