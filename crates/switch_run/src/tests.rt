@@ -1,6 +1,6 @@
 //! The transistors of small cells, by hand.
 
-ghost use Rattle.std.specs.Prelude.{◌≡◌, ◌≤◌, ◌<◌, All, length, IfOk};
+ghost use Rattle.std.specs.Prelude.{◌≡◌, ◌≤◌, ◌<◌, All, length, IfOk, OnOk};
 ghost use Rattle.switch_response.specs.Network.{IsRoomFor};
 
 use super::*;
@@ -40,6 +40,20 @@ fn part(alloc: Global, pins: &str, cards: &str) -> Result<Subcircuit, Fail> {
     Ok(part)
 }
 
+fn push_size(alloc: Global, list: &mut Items<Size>, node: &str, strength: u8) -> Result<(), Fail>
+    requires low { 1 ≤ strength }
+    requires high { strength ≤ 3 }
+    requires before { All (λ z. (1 ≤ z.strength) × (z.strength ≤ 3)) list.old }
+    ensures { OnOk result (All (λ z. (1 ≤ z.strength) × (z.strength ≤ 3)) list.new) }
+{
+    list.push(Size {
+        cell: text(alloc, "CELL")?,
+        node: text(alloc, node)?,
+        strength,
+    })?;
+    Ok(())
+}
+
 /// The technology of the sample cells, with sizes of nodes.
 fn tech(alloc: Global, sizes: &[(&str, u8)]) -> Result<Tech, Fail>
     ensures { IfOk result (λ t. All (λ z. (1 ≤ z.strength) × (z.strength ≤ 3)) t.sizes) }
@@ -60,11 +74,7 @@ fn tech(alloc: Global, sizes: &[(&str, u8)]) -> Result<Tech, Fail>
     let mut list = Items::new(alloc);
     for (node, strength) in sizes {
         if 1 <= *strength && *strength <= 3 {
-            list.push(Size {
-                cell: text(alloc, "CELL")?,
-                node: text(alloc, node)?,
-                strength: *strength,
-            })?;
+            push_size(alloc, &mut list, node, *strength)?;
         }
     }
     Ok(Tech {
