@@ -218,7 +218,7 @@ const MOST_NODES: usize = 512;
 /// The network of a subcircuit, whose input nodes are these inputs and supplies. All other nodes are storage nodes: the
 /// pins in their order, then the nodes of the cards by first appearance as drain, gate or source. A storage node has
 /// strength 1 unless the technology names its size. The values of `pins` in the calls on the network stand in the order
-/// of `inputs`. Where a name stands twice among the inputs and supplies, the first counts.
+/// of `inputs`. The names of inputs and supplies are to differ: which of two equal ones a card means isn't told.
 pub fn build(
     alloc: Global,
     part: &Subcircuit,
