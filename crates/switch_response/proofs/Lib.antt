@@ -1,0 +1,11 @@
+pub mod Order
+pub mod Spreading
+pub mod Exact
+pub mod States
+pub mod NameKeys
+pub mod NameLists
+pub mod CardEnds
+pub mod CardModels
+pub mod BuiltNetwork
+pub mod ArcRows
+pub mod Relaxation

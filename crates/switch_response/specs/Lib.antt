@@ -1,0 +1,12 @@
+pub mod Walks
+pub mod Spread
+pub mod Seeds
+pub mod Network
+pub mod Differences
+pub mod NameIndex
+pub mod Wiring
+pub mod Places
+pub mod Refusals
+pub mod Pile
+pub mod Arcs
+pub mod Relaxing
