@@ -41,7 +41,7 @@ mod tests {
         }
         assert_eq!(rt;
             text.as_str(),
-            "10000y011Xn0XXXn0011Xn1101yX1XXn0XXXyX1XXyXXXXy"
+            "10000y011Xn0XXXn0011Xn1101yX1XXnX0XXXyX1XXyXXXXy"
         );
         Ok(())
     }

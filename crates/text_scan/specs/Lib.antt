@@ -1,0 +1,7 @@
+pub mod Bytes
+pub mod Pieces
+pub mod Tokens
+pub mod Jumps
+pub mod Left
+pub mod Limits
+pub mod Firm

@@ -1,0 +1,11 @@
+pub mod Fronts
+pub mod Cuts
+pub mod Tells
+pub mod Stops
+pub mod Complete
+pub mod Refuses
+pub mod Answer
+pub mod Sums
+pub mod Prefix
+pub mod Passes
+pub mod Unique

@@ -1,0 +1,4 @@
+pub mod Rule
+pub mod Reading
+pub mod Answers
+pub mod Example
