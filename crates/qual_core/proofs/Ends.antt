@@ -1,7 +1,7 @@
 -- How a run ends, by its status.
-use Rattle.std.proofs.Common.{◌≡◌, ◌≤◌, ◌⊎◌, inl, inr, ℕ, List, ◌++◌, Option, Some, None, refl, sym, ap}
+use Rattle.std.proofs.Common.{◌≡◌, ◌≤◌, inl, ℕ, List, ◌++◌, Option, Some, None, refl, ap}
 use Rattle.qual_core.specs.Outcome.{usage}
-use Rattle.qual_core.specs.Top.{Blames, IsVerdict, IsUsageOrVerdict, IsAnswer, IsDoneOrFaulty, UsageExactly, Writes}
+use Rattle.qual_core.specs.Top.{Blames, IsVerdict, IsUsageOrVerdict, IsAnswer, UsageExactly, Writes}
 use Rattle.qual_core.specs.declared.command.Command.{Command}
 use Rattle.qual_core.specs.declared.reply.Reply.{Reply}
 use Rattle.qual_core.specs.declared.reply.Status.{Status}

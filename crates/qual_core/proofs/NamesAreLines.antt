@@ -1,8 +1,8 @@
 -- No line end stands in a name, since names are words.
-use Rattle.std.proofs.Common.{◌≡◌, ℕ, List, [], ◌∷◌, ◌++◌, Bool, true, false, not, ◌&&◌, ◌||◌, ◌==◌, nat_le, if◌then◌else◌, refl, ap, codes, length, map}
+use Rattle.std.proofs.Common.{◌≡◌, ℕ, List, [], ◌∷◌, ◌++◌, Bool, true, false, not, ◌&&◌, ◌==◌, if◌then◌else◌, refl, ap}
 use Rattle.qual_core.specs.Tokens.{Token, word, sign, is_word_byte, is_blank, is_line_end, begins_with_word, lengthened, tokens, without_line_ends, tokens_of}
 use Rattle.qual_core.specs.Compare.{IsLine}
-use Rattle.qual_core.specs.Liberty.{IsLibertyOf, spelled_pin, spelled_role, with_output, outputs_of}
+use Rattle.qual_core.specs.Liberty.{IsLibertyOf, spelled_pin, with_output, outputs_of}
 use Rattle.qual_core.specs.Spelling.{together}
 use Rattle.qual_core.specs.declared.liberty.Cell.{Cell}
 use Rattle.qual_core.specs.declared.liberty.Factor.{Factor}

@@ -1,17 +1,16 @@
 -- There is one outcome.
-use Rattle.std.proofs.Common.{◌≡◌, ◌⊎◌, inl, inr, ◌≤◌, ℕ, List, [], ◌∷◌, ◌++◌, map, length, Option, Some, None, Bool, true, refl, sym, ◌∙◌, ap, arith, codes, append-nil}
+use Rattle.std.proofs.Common.{◌≡◌, inl, inr, ℕ, List, [], ◌∷◌, length, Option, Some, None, true, refl, sym, ◌∙◌, ap, arith, append-nil}
 use Rattle.tern_core.specs.declared.tern.Tern.{Tern}
 use Rattle.qual_core.specs.Tokens.{Token, tokens_of}
-use Rattle.qual_core.specs.Meaning.{vectors, liberty_value, SettlesTo}
-use Rattle.qual_core.specs.Compare.{first_mismatch, AreRows, IsCompareText, compare_text}
+use Rattle.qual_core.specs.Meaning.{vectors, SettlesTo}
+use Rattle.qual_core.specs.Compare.{first_mismatch, AreRows, compare_text}
 use Rattle.qual_core.specs.Liberty.{spelled_library, is_library, inputs_of, outputs_of, IsCellOf, IsLibertyOf}
 use Rattle.qual_core.specs.LibertyReading.{library_in}
 use Rattle.qual_core.specs.Verilog.{spelled_module, is_module, IsVerilogOf}
 use Rattle.qual_core.specs.VerilogReading.{module_in}
 use Rattle.qual_core.specs.Command.{command_of, name_beside}
-use Rattle.qual_core.specs.Outcome.{usage, refused, IsLiberty, IsVerilog, IsJudged, verdict_status, IsSecondReply, IsFirstReply, IsCompareReply, IsReplyOf, IsReplyTo, IsOutcome}
+use Rattle.qual_core.specs.Outcome.{IsLiberty, IsVerilog, IsJudged, verdict_status, IsSecondReply, IsFirstReply, IsCompareReply, IsReplyOf, IsReplyTo, IsOutcome}
 use Rattle.qual_core.specs.Top.{AreAccepted, IsDoneOrFaulty}
-use Rattle.qual_core.specs.Network.{network_of, row_of}
 use Rattle.qual_core.specs.declared.command.Command.{Command}
 use Rattle.qual_core.specs.declared.command.CommandName.{CommandName}
 use Rattle.qual_core.specs.declared.command.CommandName.TheVariants.{Compare}
@@ -24,7 +23,6 @@ use Rattle.qual_core.specs.declared.liberty.Library.{Library}
 use Rattle.qual_core.specs.declared.verilog.Module.{Module}
 use Rattle.qual_core.specs.declared.reply.Reply.{Reply}
 use Rattle.qual_core.specs.declared.reply.Status.{Status}
-use Rattle.qual_core.specs.declared.reply.Status.TheVariants.{Done, Faulty}
 use Rattle.qual_core.proofs.Equal.{Facts, facts, AreLong, vectors_long}
 use Rattle.qual_core.proofs.Grammar.{some_pair}
 use Rattle.qual_core.proofs.LibertyGrammar.{library_reads}

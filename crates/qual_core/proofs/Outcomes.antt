@@ -1,17 +1,15 @@
 -- What a text of an outcome says.
-use Rattle.std.proofs.Common.{◌≡◌, ◌<◌, ◌≤◌, ◌+◌, ◌^◌, ◌⊎◌, inl, inr, ℕ, List, [], ◌∷◌, ◌++◌, Option, Some, None, refl, sym, ◌∙◌, ap, arith, codes, rules, length, take, drop, IsSome, IsTrue, nat_le, true, ◌&&◌}
-use Rattle.std.proofs.lemmas.Bool.Decides.{nat_tests}
-use Rattle.std.proofs.lemmas.List.{take-append-drop, append_cancel_left, append-nil}
-use Rattle.std.proofs.lemmas.List.Sums.{count_by-le-length}
+use Rattle.std.proofs.Common.{◌≡◌, ◌≤◌, ◌^◌, inl, inr, ℕ, List, [], ◌++◌, Option, Some, None, refl, sym, ◌∙◌, ap, arith, codes, rules, length, take, drop, IsSome}
+use Rattle.std.proofs.lemmas.List.{take-append-drop, append_cancel_left}
 use Rattle.std.proofs.Math.Seq.{take-length}
 use Rattle.desk_ports.specs.Sink.{AppendsPart}
 use Rattle.qual_core.specs.Meaning.{vectors, IsEqualEverywhere}
-use Rattle.qual_core.specs.Compare.{is_known, first_mismatch, defined_count, AreRows, IsCompareText, Says}
+use Rattle.qual_core.specs.Compare.{first_mismatch, defined_count, IsCompareText, Says}
 use Rattle.qual_core.specs.Liberty.{IsLibertyOf}
 use Rattle.qual_core.specs.Verilog.{IsVerilogOf}
 use Rattle.qual_core.specs.Command.{command_of, name_beside}
-use Rattle.qual_core.specs.Outcome.{usage, refused, IsLiberty, IsVerilog, IsJudged, IsSecondReply, IsFirstReply, IsCompareReply, IsReplyOf, IsReplyTo, IsOutcome}
-use Rattle.qual_core.specs.Top.{AreAccepted, AreEqual}
+use Rattle.qual_core.specs.Outcome.{usage, refused, IsVerilog, IsSecondReply, IsFirstReply, IsReplyOf, IsReplyTo, IsOutcome}
+use Rattle.qual_core.specs.Top.{AreEqual}
 use Rattle.qual_core.specs.declared.command.Command.{Command}
 use Rattle.qual_core.specs.declared.command.CommandName.{CommandName}
 use Rattle.qual_core.specs.declared.command.CommandName.TheVariants.{Compare}
@@ -21,7 +19,6 @@ use Rattle.qual_core.specs.declared.liberty.Cell.{Cell}
 use Rattle.qual_core.specs.declared.verilog.Module.{Module}
 use Rattle.qual_core.specs.declared.reply.Reply.{Reply}
 use Rattle.qual_core.proofs.Equal.{equal_everywhere, few_inputs}
-use Rattle.qual_core.proofs.Grammar.{each_true}
 use Rattle.qual_core.proofs.NamesAreLines.{name_line, output_line}
 use Rattle.qual_core.proofs.Saying.{VerdictEqual, said_equal, vectors_within, row_count, mismatch_within, defined_within, says_more, refused_liberty, refused_verilog, usage_line}
 

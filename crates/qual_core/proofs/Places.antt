@@ -1,9 +1,8 @@
 -- Where the names of files stand among the words.
-use Rattle.std.proofs.Common.{◌≡◌, ◌≤◌, ◌<◌, ◌+◌, ℕ, zero, suc, get_or, String, string_bytes, List, [], ◌∷◌, length, Option, Some, None, Result, IfOk, Bool, true, false, ◌&&◌, map, refl, sym, ◌∙◌, ap, arith, bytes_eq, codes, if◌then◌else◌}
-use Rattle.std.specs.List.{list_all}
+use Rattle.std.proofs.Common.{◌≡◌, ◌<◌, ◌+◌, ℕ, zero, suc, get_or, String, string_bytes, List, [], ◌∷◌, length, Option, Some, None, Result, IfOk, Bool, true, false, ◌&&◌, refl, ap, arith, bytes_eq, codes}
 use Rattle.std.specs.declared.alloc.Global.{Global}
 use Rattle.qual_core.specs.Names.{is_among}
-use Rattle.qual_core.specs.Command.{texts, options, option_word, file_word, files_needed, are_options_of, has_needed, place_from, place_of, with_place, files_named, name_of, named_command, command_of, word_at, word_at_place, name_beside, names}
+use Rattle.qual_core.specs.Command.{texts, options, option_word, files_needed, are_options_of, has_needed, place_from, files_named, name_of, named_command, command_of, word_at, name_beside, names}
 use Rattle.qual_core.specs.Outcome.{IsCompareReply, IsReplyOf}
 use Rattle.qual_core.specs.declared.reply.Reply.{Reply}
 use Rattle.qual_core.specs.declared.views.Failure.{Failure}

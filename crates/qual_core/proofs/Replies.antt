@@ -1,6 +1,6 @@
 -- How the reply is put together.
-use Rattle.std.proofs.Common.{◌≡◌, ◌≤◌, ℕ, List, Option, Some, None, Result, Ok, Err, IfOk, refl, sym, ◌∙◌, ap, inl, inr, codes, rules}
-use Rattle.qual_core.specs.Outcome.{refused, IsLiberty, IsVerilog, IsJudged, IsCompareReply}
+use Rattle.std.proofs.Common.{◌≡◌, ℕ, List, Option, Some, Result, Ok, Err, IfOk, inr, rules}
+use Rattle.qual_core.specs.Outcome.{IsLiberty, IsVerilog, IsJudged, IsCompareReply}
 use Rattle.qual_core.specs.Top.{IsCellRead, IsModuleRead}
 use Rattle.qual_core.specs.declared.liberty.Cell.{Cell}
 use Rattle.qual_core.specs.declared.verilog.Module.{Module}

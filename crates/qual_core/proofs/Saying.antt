@@ -1,16 +1,14 @@
 -- Which lines a text says.
-use Rattle.std.proofs.Common.{get_or, ◌≡◌, ◌≢◌, ◌⊎◌, inl, inr, ◌<◌, ◌≤◌, ◌+◌, ◌*◌, ◌^◌, ℕ, zero, suc, List, [], ◌∷◌, ◌++◌, Option, Some, None, true, false, if◌then◌else◌, refl, sym, ◌∙◌, ap, arith, append_assoc, length-append, decimal, codes, rules, length, take, drop, bytes_eq}
+use Rattle.std.proofs.Common.{get_or, ◌≡◌, ◌≢◌, ◌⊎◌, inl, inr, ◌<◌, ◌≤◌, ◌+◌, ◌^◌, ℕ, zero, suc, List, [], ◌∷◌, ◌++◌, Option, Some, None, true, false, if◌then◌else◌, refl, sym, ◌∙◌, ap, arith, append_assoc, length-append, decimal, codes, rules, length}
 use Rattle.std.specs.Str.Parse.{AllDigits}
 use Rattle.std.proofs.lemmas.Fmt.{decimal_is_IsNumeral}
 use Rattle.std.proofs.lemmas.Bool.Decides.{nat_tests}
-use Rattle.std.proofs.lemmas.List.{take-append-drop, append_cancel_left, append-nil}
-use Rattle.std.proofs.lemmas.List.Sums.{count_by-le-length}
+use Rattle.std.proofs.lemmas.List.{append_cancel_left, append-nil}
 use Rattle.std.proofs.lemmas.Nat.{pow_pos}
 use Rattle.tern_core.specs.declared.tern.Tern.{Tern}
 use Rattle.tern_core.specs.declared.tern.Tern.TheVariants.{Zero, One, Unknown}
 use Rattle.tern_core.specs.Values.{symbol_of}
-use Rattle.desk_ports.specs.Sink.{AppendsPart}
-use Rattle.qual_core.specs.Meaning.{vectors, vectors_from, IsEqualEverywhere}
+use Rattle.qual_core.specs.Meaning.{vectors, vectors_from}
 use Rattle.qual_core.specs.Compare.{is_known, is_different, first_mismatch, defined_count, AreRows, mismatch_tail, verdict_lines, compare_lines, text_of_lines, IsLine, AreLines, Says}
 use Rattle.qual_core.specs.declared.compare.Mismatch.{Mismatch}
 use Rattle.qual_core.specs.declared.compare.Values.{Values}

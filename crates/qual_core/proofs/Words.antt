@@ -1,12 +1,11 @@
 -- Words as pairs, two at a time.
-use Rattle.std.proofs.Common.{◌≡◌, ◌≤◌, ◌<◌, ◌+◌, ◌-◌, length-drop, take, ◌∙◌, Option, ℕ, zero, suc, List, [], ◌∷◌, length, get_or, drop, refl, arith, String, Some, None, Bool, true, false, ◌&&◌, ◌==◌, not, string_bytes, bytes_eq, map}
+use Rattle.std.proofs.Common.{◌≡◌, ◌≤◌, ◌<◌, ◌+◌, ◌-◌, length-drop, take, ◌∙◌, Option, ℕ, List, [], ◌∷◌, length, get_or, drop, refl, arith, String, Some, None, Bool, true, false, ◌&&◌, ◌==◌, not, string_bytes, bytes_eq, map}
 use Rattle.std.specs.List.{list_all}
 use Rattle.std.proofs.Math.Seq.{take-length}
 use Rattle.std.specs.declared.alloc.Global.{Global}
 use Rattle.qual_core.specs.Names.{is_among, is_distinct}
 use Rattle.qual_core.specs.Command.{texts, options, values, are_pairs, option_word, files_needed, is_file_name, is_option_of, are_options_of, place_from}
 use Rattle.qual_core.specs.declared.command.CommandName.{CommandName}
-use Rattle.qual_core.specs.declared.command.CommandName.TheVariants.{Compare}
 
 pub options-short : (w : List (String Global)) → length w < 2 → options (texts w) ≡ []
 options-short [] h = refl

@@ -1,6 +1,5 @@
 -- What becomes of the words and the files that they name.
-use Rattle.std.specs.Prelude.{◌≡◌, ◌≤◌, ◌⊎◌, ℕ, List, [], ◌∷◌, ◌++◌, Option, Some, None, codes, length}
-use Rattle.tern_core.specs.declared.tern.Tern.{Tern}
+use Rattle.std.specs.Prelude.{◌≡◌, ◌≤◌, ◌⊎◌, ℕ, List, ◌++◌, Option, Some, None, codes, length}
 use Rattle.qual_core.specs.Liberty.{IsLibertyOf}
 use Rattle.qual_core.specs.Verilog.{IsVerilogOf}
 use Rattle.qual_core.specs.Compare.{IsCompareText}

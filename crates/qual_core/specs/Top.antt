@@ -1,13 +1,12 @@
 -- What a run answers, writes and asks for.
-use Rattle.std.specs.Prelude.{◌≡◌, ◌≤◌, ◌<◌, ◌+◌, ◌++◌, ◌⊎◌, ℕ, max, List, [], ◌∷◌, Option, Some, None, Bool, IsTrue, IsSome, IsSomeAnd, Vec, length, codes}
+use Rattle.std.specs.Prelude.{◌≡◌, ◌≤◌, ◌<◌, ◌+◌, ◌++◌, ◌⊎◌, ℕ, max, List, [], ◌∷◌, Option, Some, None, Bool, IsTrue, IsSome, IsSomeAnd, Vec, length}
 use Rattle.std.specs.declared.alloc.Global.{Global}
 use Rattle.desk_ports.specs.Faults.{Rose}
 use Rattle.desk_ports.specs.Sink.{AppendsPart}
 use Rattle.desk_ports.specs.declared.asked.Asked.{Asked}
-use Rattle.qual_core.specs.Command.{names, command_of, name_beside}
+use Rattle.qual_core.specs.Command.{command_of, name_beside}
 use Rattle.qual_core.specs.Meaning.{IsEqualEverywhere}
-use Rattle.qual_core.specs.Compare.{Says}
-use Rattle.qual_core.specs.Outcome.{usage, MAX_FILE, IsLiberty, IsVerilog, IsOutcome}
+use Rattle.qual_core.specs.Outcome.{usage, MAX_FILE, IsLiberty, IsVerilog}
 use Rattle.qual_core.specs.declared.command.Command.{Command}
 use Rattle.qual_core.specs.declared.command.FileOption.TheVariants.{Liberty, Verilog}
 use Rattle.qual_core.specs.declared.liberty.Cell.{Cell}

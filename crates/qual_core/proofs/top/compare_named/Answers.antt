@@ -1,5 +1,5 @@
-use Rattle.std.proofs.Common.{arith, ◌≡◌, ◌∷◌, [], List, ℕ}
-use Rattle.qual_core.specs.Command.{texts, names}
+use Rattle.std.proofs.Common.{arith}
+use Rattle.qual_core.specs.Command.{texts}
 use Rattle.qual_core.proofs.Places.{file_count, reply_named, named_both}
 use Rattle.qual_core.proofs.top.compare_named.Goals as goal
 

@@ -1,4 +1,4 @@
-use Rattle.std.proofs.Common.{◌≡◌, ◌<◌, length, get_or, sym, ap, arith}
+use Rattle.std.proofs.Common.{length, sym, ap, arith}
 use Rattle.qual_core.specs.Command.{texts}
 use Rattle.qual_core.proofs.Places.{place_within, name_at, text_count}
 use Rattle.qual_core.proofs.top.file_place.Goals as goal

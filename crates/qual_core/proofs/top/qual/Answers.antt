@@ -1,7 +1,6 @@
-use Rattle.std.proofs.Common.{refl, sym, ap, inl, inr, rules, ◌≡◌, ◌++◌}
+use Rattle.std.proofs.Common.{refl, ap, inl, inr, rules}
 use Rattle.qual_core.specs.Command.{texts, command_of}
 use Rattle.qual_core.specs.Outcome.{IsOutcome}
-use Rattle.qual_core.specs.Top.{IsAnswer}
 use Rattle.qual_core.specs.declared.reply.Reply.{Reply}
 use Rattle.qual_core.proofs.Saying.{nothing_says}
 use Rattle.qual_core.proofs.Outcomes.{whole_says, part_says}
