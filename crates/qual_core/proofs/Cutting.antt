@@ -1,7 +1,7 @@
-use Rattle.std.proofs.Common.{◌≡◌, ◌≢◌, ℕ, suc, ◌+◌, ◌<◌, ◌≤◌, ◌⊎◌, inl, inr, refl, sym, ◌∙◌, ap, arith, List, [], ◌∷◌, ◌++◌, length, take, drop, drop-cons, length-drop, get_or, Option, Some, None, Bool, true, false, not, ◌||◌, ◌&&◌, ◌==◌, nat_le, rules, add-one, cond}
+use Rattle.std.proofs.Common.{◌≡◌, ◌≢◌, ℕ, suc, ◌+◌, ◌<◌, ◌≤◌, ◌⊎◌, inl, inr, refl, sym, ◌∙◌, ap, arith, List, [], ◌∷◌, length, take, drop, drop-cons, length-drop, get_or, Some, None, Bool, true, false, not, ◌&&◌, ◌==◌, add-one}
 use Rattle.std.proofs.lemmas.Bool.Decides.{nat_tests}
 use Rattle.std.proofs.lemmas.List.{drop_all}
-use Rattle.qual_core.specs.Tokens.{Token, word, sign, tokens, without_line_ends, is_word_byte, is_letter, is_within, is_blank, is_line_end, is_gap, word_length, begins_with_word, lengthened, BeginsToken, seen, turned}
+use Rattle.qual_core.specs.Tokens.{Token, word, sign, tokens, without_line_ends, is_word_byte, is_blank, is_line_end, is_gap, word_length, begins_with_word, BeginsToken, seen, turned}
 use Rattle.qual_core.specs.Reading.{sign_in, word_in}
 
 pub gap_is_no_word : (quoted : Bool) (b : ℕ) → is_gap quoted b ≡ true → is_word_byte b ≡ false
@@ -47,9 +47,9 @@ cut_more b bytes h more =
 pub cut_word : (bytes : List ℕ) → 0 < word_length bytes → CutsWord bytes
 cut_word [] h = absurd (omega arith)
 cut_word (b ∷ bytes) h = elim (is_word_byte b) as (λ v. is_word_byte b ≡ v → CutsWord (b ∷ bytes)) [
-      | true ↦ λ e. cut_more b bytes e (cut_word bytes)
-      | false ↦ λ e. absurd (let k : 0 < 0 = rw e at h in omega arith)
-    ] refl
+  | true ↦ λ e. cut_more b bytes e (cut_word bytes)
+  | false ↦ λ e. absurd (let k : 0 < 0 = rw e at h in omega arith)
+] refl
 
 word_goes_on : (b : ℕ) (bytes : List ℕ) → is_word_byte b ≡ true → word_length (b ∷ bytes) ≡ suc (word_length bytes)
 word_goes_on b bytes h = rw h refl
@@ -81,9 +81,9 @@ cut_quote quoted bytes = refl
 -- a sign is one token, and a quote turns what counts as a blank
 cut_any_sign : (quoted : Bool) (b : ℕ) (bytes : List ℕ) → is_gap quoted b ≡ false → is_word_byte b ≡ false → seen quoted (b ∷ bytes) ≡ sign b ∷ seen (turned quoted b) bytes
 cut_any_sign quoted b bytes g w = elim (b == 34) as (λ v. (b == 34) ≡ v → seen quoted (b ∷ bytes) ≡ sign b ∷ seen (turned quoted b) bytes) [
-      | true ↦ λ e. let f : b ≡ 34 = grind (arith, nat_tests, e) in rw f (cut_quote quoted bytes)
-      | false ↦ λ e. rw e (cut_sign quoted b bytes g w e)
-    ] refl
+  | true ↦ λ e. let f : b ≡ 34 = grind (arith, nat_tests, e) in rw f (cut_quote quoted bytes)
+  | false ↦ λ e. rw e (cut_sign quoted b bytes g w e)
+] refl
 
 -- no token is left
 pub cut_end : (quoted : Bool) → seen quoted [] ≡ []
@@ -113,9 +113,9 @@ sign_word quoted s b bytes w =
 
 sign_unlike : (quoted : Bool) (s b : ℕ) (bytes : List ℕ) → is_gap quoted b ≡ false → b ≢ s → sign_in s (seen quoted (b ∷ bytes)) ≡ None
 sign_unlike quoted s b bytes g ne = elim (is_word_byte b) as (λ v. is_word_byte b ≡ v → sign_in s (seen quoted (b ∷ bytes)) ≡ None) [
-      | true ↦ λ w. sign_word quoted s b bytes w
-      | false ↦ λ w. rw (cut_any_sign quoted b bytes g w) (sign_other s b _ ne)
-    ] refl
+  | true ↦ λ w. sign_word quoted s b bytes w
+  | false ↦ λ w. rw (cut_any_sign quoted b bytes g w) (sign_other s b _ ne)
+] refl
 
 pub sign_not_here : (quoted : Bool) (bytes : List ℕ) (i s : ℕ) → i < length bytes → is_gap quoted (get_or bytes i 0) ≡ false → (get_or bytes i 0 ≢ s) ⊎ (is_word_byte (get_or bytes i 0) ≡ true) → sign_in s (seen quoted (drop i bytes)) ≡ None
 sign_not_here quoted bytes i s h g (inl ne) = rw (drop-cons bytes i 0 h) (sign_unlike quoted s _ _ g ne)
@@ -130,9 +130,9 @@ word_sign b rest = refl
 pub no_word : (quoted : Bool) (bytes : List ℕ) → BeginsToken quoted bytes → word_length bytes ≡ 0 → word_in (seen quoted bytes) ≡ None
 no_word quoted [] g h = rw (cut_end quoted) refl
 no_word quoted (b ∷ bytes) g h = elim (is_word_byte b) as (λ v. is_word_byte b ≡ v → word_in (seen quoted (b ∷ bytes)) ≡ None) [
-      | true ↦ λ w. absurd (let k : suc (word_length bytes) ≡ 0 = rw w at h in omega arith)
-      | false ↦ λ w. rw (cut_any_sign quoted b bytes g w) refl
-    ] refl
+  | true ↦ λ w. absurd (let k : suc (word_length bytes) ≡ 0 = rw w at h in omega arith)
+  | false ↦ λ w. rw (cut_any_sign quoted b bytes g w) refl
+] refl
 
 pub word_here : (quoted : Bool) (bytes : List ℕ) → 0 < word_length bytes → word_in (seen quoted bytes) ≡ Some (take (word_length bytes) bytes, seen quoted (drop (word_length bytes) bytes))
 word_here quoted bytes h = rw (cut_seen_word quoted bytes h) refl
@@ -143,9 +143,9 @@ word_past bytes i h = rw (drop_all i bytes h) refl
 no_token : (quoted : Bool) (bytes : List ℕ) → BeginsToken quoted bytes → seen quoted bytes ≡ [] → bytes ≡ []
 no_token quoted [] g h = refl
 no_token quoted (b ∷ bytes) g h = elim (is_word_byte b) as (λ v. is_word_byte b ≡ v → (b ∷ bytes) ≡ []) [
-      | true ↦ λ w. absurd (let long : 0 < word_length (b ∷ bytes) = rw w (omega arith) in let f = cut_seen_word quoted (b ∷ bytes) long in cc)
-      | false ↦ λ w. absurd (let f = cut_any_sign quoted b bytes g w in cc)
-    ] refl
+  | true ↦ λ w. absurd (let long : 0 < word_length (b ∷ bytes) = rw w (omega arith) in let f = cut_seen_word quoted (b ∷ bytes) long in cc)
+  | false ↦ λ w. absurd (let f = cut_any_sign quoted b bytes g w in cc)
+] refl
 
 pub end_here : (quoted : Bool) (bytes : List ℕ) (i : ℕ) → i ≡ length bytes → seen quoted (drop i bytes) ≡ seen quoted bytes → seen quoted bytes ≡ []
 end_here quoted bytes i e h = sym h ∙ (rw (drop_all i bytes (omega arith)) (cut_end quoted))

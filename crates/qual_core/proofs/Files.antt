@@ -1,5 +1,5 @@
 -- What whole files spell.
-use Rattle.std.proofs.Common.{◌≡◌, ℕ, refl, sym, ◌∙◌, ap, List, [], ◌∷◌, ◌++◌, Option, Some, None, append-nil, true, false, Result, Ok, Err, IsErrOf, subst}
+use Rattle.std.proofs.Common.{◌≡◌, ℕ, sym, ◌∙◌, ap, List, [], Some, append-nil, true, false, Err, IsErrOf, subst}
 use Rattle.qual_core.specs.Tokens.{Token, tokens_of}
 use Rattle.qual_core.specs.Reading.{Read, Gives}
 use Rattle.qual_core.specs.Liberty.{spelled_library, is_library, IsLibertyOf, IsCellOf}

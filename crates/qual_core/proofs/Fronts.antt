@@ -1,9 +1,9 @@
 -- Reading lists of items from the front.
-use Rattle.std.proofs.Common.{◌≡◌, ℕ, zero, suc, ◌+◌, ◌<◌, ◌≤◌, refl, sym, ◌∙◌, ap, arith, List, [], ◌∷◌, ◌++◌, length, Option, Some, None, Err, append_assoc, append-nil, bytes_eq, true, false, ◌==◌}
+use Rattle.std.proofs.Common.{◌≡◌, ℕ, zero, suc, ◌<◌, ◌≤◌, refl, ap, arith, List, [], ◌∷◌, ◌++◌, length, Option, Some, None, Err, append_assoc, append-nil, bytes_eq, true, false, ◌==◌}
 use Rattle.qual_core.specs.Tokens.{Token, word, sign}
 use Rattle.qual_core.specs.declared.stop.Stop.{Stop}
 use Rattle.qual_core.specs.declared.stop.Stop.TheVariants.{Refused, NoMemory}
-use Rattle.qual_core.specs.Reading.{Gives, Takes, Read, ◌>>=◌, sign_in, word_in, name_in, keyword_in, item_and_more, joined_within, joined_in, items_or_end, many_within, many_in}
+use Rattle.qual_core.specs.Reading.{Gives, Read, ◌>>=◌, sign_in, keyword_in, item_and_more, joined_within, joined_in, items_or_end, many_within, many_in}
 
 -- what is left after an item is shorter
 abbrev pub Shrinks : {X : Type 0} → (List Token → Read X) → Type 0
@@ -17,9 +17,9 @@ pub sign_shortens : (b : ℕ) → Shortens (sign_in b)
 sign_shortens b [] rest e = absurd (cc)
 sign_shortens b (word w ∷ tokens) rest e = absurd (cc)
 sign_shortens b (sign c ∷ tokens) rest e = elim (c == b) as (λ v. (c == b) ≡ v → length rest < length (sign c ∷ tokens)) [
-      | true ↦ λ f. let g : Some tokens ≡ Some rest = rw f at e in let h : tokens ≡ rest = cc in omega (arith, ap length h)
-      | false ↦ λ f. absurd (let g : None ≡ Some rest = rw f at e in cc)
-    ] refl
+  | true ↦ λ f. let g : Some tokens ≡ Some rest = rw f at e in let h : tokens ≡ rest = cc in omega (arith, ap length h)
+  | false ↦ λ f. absurd (let g : None ≡ Some rest = rw f at e in cc)
+] refl
 
 nothing : {X : Type 0} (item : List Token → Read X) → Shrinks item → (r : Read X) → item [] ≡ r → item [] ≡ None
 nothing item s None e = e
@@ -122,6 +122,6 @@ pub keyword_shortens : (text : List ℕ) → Shortens (keyword_in text)
 keyword_shortens text [] rest e = absurd (cc)
 keyword_shortens text (sign c ∷ tokens) rest e = absurd (cc)
 keyword_shortens text (word w ∷ tokens) rest e = elim (bytes_eq w text) as (λ v. bytes_eq w text ≡ v → length rest < length (word w ∷ tokens)) [
-      | true ↦ λ f. let g : Some tokens ≡ Some rest = rw f at e in let h : tokens ≡ rest = cc in omega (arith, ap length h)
-      | false ↦ λ f. absurd (let g : None ≡ Some rest = rw f at e in cc)
-    ] refl
+  | true ↦ λ f. let g : Some tokens ≡ Some rest = rw f at e in let h : tokens ≡ rest = cc in omega (arith, ap length h)
+  | false ↦ λ f. absurd (let g : None ≡ Some rest = rw f at e in cc)
+] refl

@@ -1,5 +1,5 @@
 -- What is read is what is spelled, in both directions.
-use Rattle.std.proofs.Common.{◌≡◌, ℕ, zero, suc, ◌+◌, ◌<◌, ◌≤◌, refl, sym, ◌∙◌, ap, arith, List, [], ◌∷◌, ◌++◌, length, length-append, Option, Some, None, append_assoc, Bool, true, false, ◌==◌, ◌&&◌, bytes_eq, if◌then◌else◌}
+use Rattle.std.proofs.Common.{◌≡◌, ℕ, zero, suc, ◌<◌, refl, sym, ◌∙◌, ap, arith, List, [], ◌∷◌, ◌++◌, length, length-append, Option, Some, None, append_assoc, Bool, true, false, ◌==◌, ◌&&◌, bytes_eq, if◌then◌else◌}
 use Rattle.std.specs.List.{list_all}
 use Rattle.std.proofs.lemmas.Bool.Decides.{nat_tests}
 use Rattle.std.proofs.lemmas.Slice.Eq.{bytes_eq-Decides}
@@ -136,8 +136,8 @@ joined_takes_within b item spelled is_item takes s (suc n) tokens rest xs h e =
     let g = bind_some (item tokens) (λ x. item_and_more x.0 x.1 (sign_in b x.1) (joined_in b item)) (xs, rest) step in
     let shorter : length g.0.1 < length tokens = s tokens g.0.1 g.0.0 g.1 in
     joined_takes_item b item spelled is_item takes (joined_in b item) tokens rest g.0.1 g.0.0 xs
-      (λ tokens' ys l f. joined_takes_within b item spelled is_item takes s n tokens' rest ys (omega arith) f)
-      (sign_in b g.0.1) refl g.1 g.2
+    (λ tokens' ys l f. joined_takes_within b item spelled is_item takes s n tokens' rest ys (omega arith) f)
+    (sign_in b g.0.1) refl g.1 g.2
 
 pub joined_takes : {X : Type 0} (b : ℕ) (item : List Token → Read X) (spelled : X → List Token) (is_item : X → Bool) → TakesSpelled item spelled is_item → Shrinks item → TakesSpelled (joined_in b item) (joined b spelled) (are_items is_item)
 joined_takes b item spelled is_item takes s tokens rest xs e = joined_takes_within b item spelled is_item takes s (suc (length tokens)) tokens rest xs (omega arith) e
@@ -186,8 +186,8 @@ many_takes_within : {X : Type 0} (t : Token) (end : List Token → Option (List 
 many_takes_within t end item spelled is_item ends d takes s zero tokens rest xs h e = absurd (omega arith)
 many_takes_within t end item spelled is_item ends d takes s (suc n) tokens rest xs h e =
     many_takes_item t end item spelled is_item ends takes (many_in end item) tokens rest xs
-      (λ left x ys f g. let shorter : length left < length tokens = s tokens left x f in many_takes_within t end item spelled is_item ends d takes s n left rest ys (omega arith) g)
-      (end tokens) refl (sym (many_step end item d s tokens) ∙ e)
+    (λ left x ys f g. let shorter : length left < length tokens = s tokens left x f in many_takes_within t end item spelled is_item ends d takes s n left rest ys (omega arith) g)
+    (end tokens) refl (sym (many_step end item d s tokens) ∙ e)
 
 pub many_takes : {X : Type 0} (t : Token) (end : List Token → Option (List Token)) (item : List Token → Read X) (spelled : X → List Token) (is_item : X → Bool) → TakesEnd end t → Shortens end → TakesSpelled item spelled is_item → Shrinks item → (tokens rest : List Token) (xs : List X) → many_in end item tokens ≡ Some (xs, rest) → (tokens ≡ together spelled xs ++ t ∷ rest) × (list_all is_item xs ≡ true)
 many_takes t end item spelled is_item ends d takes s tokens rest xs e = many_takes_within t end item spelled is_item ends d takes s (suc (length tokens)) tokens rest xs (omega arith) e

@@ -1,11 +1,11 @@
 -- A Liberty file in its first form is read, and what is read is in its first form.
-use Rattle.std.proofs.Common.{◌≡◌, ℕ, ◌+◌, ◌<◌, refl, sym, ◌∙◌, ap, arith, List, [], ◌∷◌, ◌++◌, length, length-append, Option, Some, None, append_assoc, Bool, true, false, ◌==◌, ◌&&◌, bytes_eq, codes, if◌then◌else◌, ◌⊎◌, inl, inr}
+use Rattle.std.proofs.Common.{◌≡◌, ℕ, ◌<◌, refl, sym, ◌∙◌, ap, arith, List, ◌∷◌, ◌++◌, length, Option, Some, None, append_assoc, Bool, true, false, ◌&&◌, bytes_eq, codes, if◌then◌else◌, ◌⊎◌, inl, inr}
 use Rattle.std.proofs.lemmas.Slice.Eq.{bytes_eq-Decides}
 use Rattle.std.specs.List.{list_all}
 use Rattle.qual_core.specs.Tokens.{Token, word, sign, is_name}
-use Rattle.qual_core.specs.Reading.{Read, ◌>>=◌, sign_in, word_in, name_in, keyword_in, joined_in, many_in}
-use Rattle.qual_core.specs.Spelling.{joined, together, spelled_name}
-use Rattle.qual_core.specs.Liberty.{is_some_list, spelled_factor, spelled_sum, spelled_role, spelled_group, spelled_pin, spelled_library, is_sum, is_role, is_pin, is_library}
+use Rattle.qual_core.specs.Reading.{sign_in, word_in, name_in, keyword_in}
+use Rattle.qual_core.specs.Spelling.{joined, together}
+use Rattle.qual_core.specs.Liberty.{spelled_factor, spelled_sum, spelled_role, spelled_group, spelled_pin, spelled_library, is_sum, is_role, is_pin, is_library}
 use Rattle.qual_core.specs.LibertyReading.{factor, factor_after, factor_in, product_in, sum_in, output_in, input_in, role_in, group_in, pin_in, pins_in, library_in}
 use Rattle.qual_core.specs.declared.liberty.Factor.{Factor}
 use Rattle.qual_core.specs.declared.liberty.Role.{Role}
@@ -13,7 +13,7 @@ use Rattle.qual_core.specs.declared.liberty.Role.TheVariants.{Input, Output}
 use Rattle.qual_core.specs.declared.liberty.Pin.{Pin}
 use Rattle.qual_core.specs.declared.liberty.Library.{Library}
 use Rattle.qual_core.proofs.Fronts.{Shrinks, sign_shortens}
-use Rattle.qual_core.proofs.Grammar.{IsLong, joined_long, many_takes, many_reads, TakesEnd, bind_some, some_pair, both_true, each_true, sign_is, sign_again, word_is, name_takes, name_reads, keyword_is, keyword_again, TakesSpelled, ReadsSpelled, Any, shrinks_from, are_items, joined_takes, joined_reads, Ends}
+use Rattle.qual_core.proofs.Grammar.{IsLong, joined_long, many_takes, many_reads, bind_some, some_pair, both_true, each_true, sign_is, word_is, name_takes, keyword_is, keyword_again, TakesSpelled, ReadsSpelled, Any, shrinks_from, are_items, joined_takes, joined_reads, Ends}
 
 abbrev pub is_factor : Factor → Bool
 is_factor f = is_name f.name

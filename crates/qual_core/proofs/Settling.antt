@@ -1,12 +1,10 @@
 -- The values of a network are the one settled assignment of its module.
-use Rattle.std.proofs.Common.{◌≡◌, ℕ, zero, suc, ◌+◌, ◌<◌, ◌≤◌, refl, sym, ◌∙◌, ap, arith, subst, List, [], ◌∷◌, ◌++◌, map, length, length-append, take, append_assoc, append-nil, get_or, Bool, true, false, not, ◌&&◌, bytes_eq, if◌then◌else◌}
-use Rattle.std.specs.List.{list_all, list_any}
-use Rattle.std.proofs.Math.Seq.{take-length}
+use Rattle.std.proofs.Common.{◌≡◌, ℕ, ◌+◌, refl, sym, ◌∙◌, ap, arith, subst, List, [], ◌∷◌, ◌++◌, map, length, length-append, take, append_assoc, append-nil, Bool, true, false, not, ◌&&◌, bytes_eq}
+use Rattle.std.specs.List.{list_all}
 use Rattle.std.proofs.lemmas.Slice.Eq.{bytes_eq-Decides}
 use Rattle.tern_core.specs.declared.tern.Tern.{Tern}
-use Rattle.tern_core.specs.declared.tern.Tern.TheVariants.{Unknown}
 use Rattle.qual_core.specs.Names.{is_among, is_distinct}
-use Rattle.qual_core.specs.Meaning.{value_beside, conjunction, disjunction, negated_if, factor_value, function_value, liberty_value, gate_value, IsGateSettled, AreGatesSettled, IsSettled, SettlesTo}
+use Rattle.qual_core.specs.Meaning.{value_beside, conjunction, negated_if, factor_value, function_value, liberty_value, gate_value, IsGateSettled, AreGatesSettled, IsSettled, SettlesTo}
 use Rattle.qual_core.specs.Verilog.{has_count, goes_on_from, first_net, driven_nets, is_in_order}
 use Rattle.qual_core.specs.Network.{place_in, value_at, literal_of, product_of, sum_of, inputs_of_gate, node_of, nodes_of, network_of, literal_value, product_value, sum_value, node_value, values_after, row_of}
 use Rattle.qual_core.specs.declared.liberty.Factor.{Factor}
@@ -14,7 +12,6 @@ use Rattle.qual_core.specs.declared.liberty.Cell.{Cell}
 use Rattle.qual_core.specs.declared.verilog.GateKind.{GateKind}
 use Rattle.qual_core.specs.declared.verilog.Gate.{Gate}
 use Rattle.qual_core.specs.declared.verilog.Module.{Module}
-use Rattle.qual_core.specs.declared.network.Literal.{Literal}
 use Rattle.qual_core.specs.declared.network.Node.{Node}
 use Rattle.qual_core.proofs.Grammar.{each_true, both_true}
 
@@ -173,9 +170,10 @@ gates_settled all w known values (g ∷ gates) h o e f =
     let grown = values_grow (nodes_of (known ++ first_net g.nets ∷ []) gates) (values ++ v ∷ []) in
     let w_is : w ≡ values ++ v ∷ grown.0 = f ∙ grown.1 ∙ append_assoc values (v ∷ []) grown.0 in
     let first = gate_beside known (driven_nets gates) values grown.0 g.kind g.nets h i.0 in
-    let more : length (known ++ first_net g.nets ∷ []) ≡ length (values ++ v ∷ []) = omega (arith, length_last known (first_net g.nets), length_last values v, h) in
-    (subst (λ (k : List (List ℕ)). IsGateSettled (value_beside k w) g.kind g.nets) (sym e) (subst (λ (k : List Tern). IsGateSettled (value_beside (known ++ first_net g.nets ∷ driven_nets gates) k) g.kind g.nets) (sym w_is) first),
-     gates_settled all w (known ++ first_net g.nets ∷ []) (values ++ v ∷ []) gates more i.1 (e ∙ sym (append_assoc known (first_net g.nets ∷ []) (driven_nets gates))) f)
+    let more : length (known ++ first_net g.nets ∷ []) ≡ length (values ++ v ∷ []) = omega (arith, length_last known (first_net g.nets), length_last values v, h) in (
+      subst (λ (k : List (List ℕ)). IsGateSettled (value_beside k w) g.kind g.nets) (sym e) (subst (λ (k : List Tern). IsGateSettled (value_beside (known ++ first_net g.nets ∷ driven_nets gates) k) g.kind g.nets) (sym w_is) first),
+      gates_settled all w (known ++ first_net g.nets ∷ []) (values ++ v ∷ []) gates more i.1 (e ∙ sym (append_assoc known (first_net g.nets ∷ []) (driven_nets gates))) f,
+    )
 
 pub settles : (c : Cell) (m : Module) (pins : List Tern) → length c.inputs ≡ length pins → is_in_order c.inputs m.gates ≡ true → SettlesTo c m pins (row_of (network_of c m) pins).verilog
 settles c m pins h o =
@@ -204,9 +202,9 @@ among_itself n names = rw (bytes_same n) refl
 
 among_more : (n : List ℕ) (names : List (List ℕ)) (name : List ℕ) → is_among names name ≡ true → is_among (n ∷ names) name ≡ true
 among_more n names name a = elim (bytes_eq n name) as (λ v. bytes_eq n name ≡ v → is_among (n ∷ names) name ≡ true) [
-      | true ↦ λ e. rw e refl
-      | false ↦ λ e. rw e a
-    ] refl
+  | true ↦ λ e. rw e refl
+  | false ↦ λ e. rw e a
+] refl
 
 all_more : (n : List ℕ) (names others : List (List ℕ)) → list_all (is_among names) others ≡ true → list_all (is_among (n ∷ names)) others ≡ true
 all_more n names [] h = refl

@@ -1,19 +1,18 @@
 -- A Verilog file in its first form is read, and what is read is in its first form.
-use Rattle.std.proofs.Common.{◌≡◌, ℕ, ◌+◌, ◌<◌, refl, sym, ◌∙◌, ap, arith, List, [], ◌∷◌, ◌++◌, length, length-append, Option, Some, None, append_assoc, Bool, true, false, ◌==◌, ◌&&◌, bytes_eq, codes, if◌then◌else◌}
+use Rattle.std.proofs.Common.{◌≡◌, ℕ, refl, sym, ◌∙◌, ap, arith, List, [], ◌∷◌, ◌++◌, Some, None, append_assoc, Bool, true, false, ◌&&◌, bytes_eq, codes}
 use Rattle.std.specs.List.{list_all}
 use Rattle.std.proofs.lemmas.Slice.Eq.{bytes_eq-Decides}
 use Rattle.qual_core.specs.Tokens.{Token, word, sign, is_name}
-use Rattle.qual_core.specs.Reading.{Read, ◌>>=◌, sign_in, word_in, name_in, keyword_in, joined_in, many_in}
-use Rattle.qual_core.specs.Spelling.{joined, together, spelled_name}
-use Rattle.qual_core.specs.Liberty.{is_some_list}
+use Rattle.qual_core.specs.Reading.{sign_in, word_in, name_in, keyword_in}
+use Rattle.qual_core.specs.Spelling.{together, spelled_name}
 use Rattle.qual_core.specs.Verilog.{gate_word, spelled_names, spelled_gate, spelled_module, are_names, is_module}
 use Rattle.qual_core.specs.VerilogReading.{names_in, kind_of, gate_in, gates_in, declaration_in, ports_in, module_in}
 use Rattle.qual_core.specs.declared.verilog.GateKind.{GateKind}
 use Rattle.qual_core.specs.declared.verilog.GateKind.TheVariants.{Buf, Not, And, Or}
 use Rattle.qual_core.specs.declared.verilog.Gate.{Gate}
 use Rattle.qual_core.specs.declared.verilog.Module.{Module}
-use Rattle.qual_core.proofs.Fronts.{Shrinks, sign_shortens, keyword_shortens}
-use Rattle.qual_core.proofs.Grammar.{IsLong, joined_long, many_takes, many_reads, TakesEnd, bind_some, some_pair, both_true, each_true, sign_is, sign_again, word_is, name_takes, name_reads, keyword_is, keyword_again, TakesSpelled, ReadsSpelled, Any, shrinks_from, joined_takes, joined_reads, Ends}
+use Rattle.qual_core.proofs.Fronts.{Shrinks, keyword_shortens}
+use Rattle.qual_core.proofs.Grammar.{IsLong, many_takes, many_reads, bind_some, some_pair, both_true, each_true, sign_is, word_is, name_takes, name_reads, keyword_is, keyword_again, TakesSpelled, ReadsSpelled, Any, shrinks_from, joined_takes, joined_reads, Ends}
 
 name_long : IsLong spelled_name is_name
 name_long n h = omega arith
@@ -31,18 +30,18 @@ names_reads = joined_reads 44 name_in spelled_name is_name Any name_reads name_s
 
 kind_is : (w : List ℕ) (k : GateKind) → kind_of w ≡ Some k → w ≡ gate_word k
 kind_is w k e = elim (bytes_eq w (codes "buf")) as (λ v. bytes_eq w (codes "buf") ≡ v → w ≡ gate_word k) [
-      | true ↦ λ f. let p : Some Buf ≡ Some k = rw f at e in let q : Buf ≡ k = cc in (bytes_eq-Decides w (codes "buf")).0 f ∙ ap gate_word q
-      | false ↦ λ f. elim (bytes_eq w (codes "not")) as (λ v. bytes_eq w (codes "not") ≡ v → w ≡ gate_word k) [
-          | true ↦ λ g. let p : Some Not ≡ Some k = rw (f, g) at e in let q : Not ≡ k = cc in (bytes_eq-Decides w (codes "not")).0 g ∙ ap gate_word q
-          | false ↦ λ g. elim (bytes_eq w (codes "and")) as (λ v. bytes_eq w (codes "and") ≡ v → w ≡ gate_word k) [
-              | true ↦ λ h. let p : Some And ≡ Some k = rw (f, g, h) at e in let q : And ≡ k = cc in (bytes_eq-Decides w (codes "and")).0 h ∙ ap gate_word q
-              | false ↦ λ h. elim (bytes_eq w (codes "or")) as (λ v. bytes_eq w (codes "or") ≡ v → w ≡ gate_word k) [
-                  | true ↦ λ i. let p : Some Or ≡ Some k = rw (f, g, h, i) at e in let q : Or ≡ k = cc in (bytes_eq-Decides w (codes "or")).0 i ∙ ap gate_word q
-                  | false ↦ λ i. absurd (let p : None ≡ Some k = rw (f, g, h, i) at e in cc)
-                ] refl
-            ] refl
-        ] refl
+  | true ↦ λ f. let p : Some Buf ≡ Some k = rw f at e in let q : Buf ≡ k = cc in (bytes_eq-Decides w (codes "buf")).0 f ∙ ap gate_word q
+  | false ↦ λ f. elim (bytes_eq w (codes "not")) as (λ v. bytes_eq w (codes "not") ≡ v → w ≡ gate_word k) [
+    | true ↦ λ g. let p : Some Not ≡ Some k = rw (f, g) at e in let q : Not ≡ k = cc in (bytes_eq-Decides w (codes "not")).0 g ∙ ap gate_word q
+    | false ↦ λ g. elim (bytes_eq w (codes "and")) as (λ v. bytes_eq w (codes "and") ≡ v → w ≡ gate_word k) [
+      | true ↦ λ h. let p : Some And ≡ Some k = rw (f, g, h) at e in let q : And ≡ k = cc in (bytes_eq-Decides w (codes "and")).0 h ∙ ap gate_word q
+      | false ↦ λ h. elim (bytes_eq w (codes "or")) as (λ v. bytes_eq w (codes "or") ≡ v → w ≡ gate_word k) [
+        | true ↦ λ i. let p : Some Or ≡ Some k = rw (f, g, h, i) at e in let q : Or ≡ k = cc in (bytes_eq-Decides w (codes "or")).0 i ∙ ap gate_word q
+        | false ↦ λ i. absurd (let p : None ≡ Some k = rw (f, g, h, i) at e in cc)
+      ] refl
     ] refl
+  ] refl
+] refl
 
 kind_again : (k : GateKind) → kind_of (gate_word k) ≡ Some k
 kind_again Buf = refl

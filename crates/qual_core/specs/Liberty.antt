@@ -1,8 +1,7 @@
 -- The first form of a Liberty file: one cell with inputs and one output, whose function is a sum of products.
-use Rattle.std.specs.Prelude.{◌≡◌, ℕ, ◌==◌, ◌&&◌, nat_le, bytes_eq, if◌then◌else◌, Bool, true, false, not, List, [], ◌∷◌, ◌++◌, map, length, codes, Option, Some, None}
+use Rattle.std.specs.Prelude.{◌≡◌, ℕ, ◌&&◌, nat_le, if◌then◌else◌, Bool, true, false, List, [], ◌∷◌, ◌++◌, length, codes}
 use Rattle.std.specs.List.{list_all}
 use Rattle.qual_core.specs.Tokens.{Token, word, sign, tokens_of, is_name}
-use Rattle.qual_core.specs.Reading.{Read, ◌>>=◌, sign_in, word_in, name_in, keyword_in, joined_in, many_in}
 use Rattle.qual_core.specs.Spelling.{joined, together}
 use Rattle.qual_core.specs.Names.{is_among, is_distinct}
 use Rattle.qual_core.specs.declared.liberty.Factor.{Factor}

@@ -1,5 +1,5 @@
 -- Reading from the front of a list of tokens: a value and the tokens after it, or None where the list doesn't begin so.
-use Rattle.std.specs.Prelude.{◌≡◌, ℕ, zero, suc, ◌==◌, bytes_eq, if◌then◌else◌, List, [], ◌∷◌, ◌++◌, length, MatchBool, Bool, Option, Some, None, Result, Ok, Err}
+use Rattle.std.specs.Prelude.{◌≡◌, ℕ, zero, suc, ◌==◌, bytes_eq, if◌then◌else◌, List, [], ◌∷◌, length, MatchBool, Bool, Option, Some, None, Result, Ok, Err}
 use Rattle.qual_core.specs.Tokens.{Token, word, sign, is_name}
 use Rattle.qual_core.specs.declared.stop.Stop.{Stop}
 use Rattle.qual_core.specs.declared.stop.Stop.TheVariants.{Refused, NoMemory}

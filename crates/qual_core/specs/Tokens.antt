@@ -1,5 +1,5 @@
 -- How the first forms of both files are cut into words and signs.
-use Rattle.std.specs.Prelude.{ℕ, Bool, true, false, ◌≡◌, suc, ◌||◌, ◌&&◌, not, ◌==◌, nat_le, if◌then◌else◌, List, [], ◌∷◌, length}
+use Rattle.std.specs.Prelude.{ℕ, Bool, false, ◌≡◌, suc, ◌||◌, ◌&&◌, not, ◌==◌, nat_le, if◌then◌else◌, List, [], ◌∷◌, length}
 
 pub data Token : Type 0 where
   word : List ℕ → Token

@@ -1,5 +1,5 @@
 -- The first form of a Verilog file for a cell: one flat module of gates in an order of dependence.
-use Rattle.std.specs.Prelude.{◌≡◌, ℕ, ◌==◌, bytes_eq, ◌&&◌, nat_le, if◌then◌else◌, Bool, true, false, not, List, [], ◌∷◌, ◌++◌, map, length, codes}
+use Rattle.std.specs.Prelude.{◌≡◌, ℕ, ◌==◌, bytes_eq, ◌&&◌, nat_le, Bool, true, false, not, List, [], ◌∷◌, ◌++◌, map, length, codes}
 use Rattle.std.specs.List.{list_all}
 use Rattle.qual_core.specs.Tokens.{Token, word, sign, tokens_of, is_name}
 use Rattle.qual_core.specs.Spelling.{joined, together, spelled_name}

@@ -1,5 +1,5 @@
 -- The same from the front, token by token.
-use Rattle.std.specs.Prelude.{ℕ, bytes_eq, if◌then◌else◌, Bool, true, false, List, [], ◌∷◌, codes, Option, Some, None}
+use Rattle.std.specs.Prelude.{ℕ, bytes_eq, if◌then◌else◌, List, codes, Option, Some, None}
 use Rattle.qual_core.specs.Tokens.{Token}
 use Rattle.qual_core.specs.Reading.{Read, ◌>>=◌, sign_in, word_in, name_in, keyword_in, joined_in, many_in}
 use Rattle.qual_core.specs.declared.verilog.GateKind.{GateKind}

@@ -119,11 +119,7 @@ fn node_of(alloc: Global, known: &[Text], gate: &Gate) -> Result<Node, Stop>
 }
 
 // The gates over the places of nets; their outputs become known one after the other.
-fn nodes_of(
-    alloc: Global,
-    known: &mut Items<Text>,
-    gates: &[Gate],
-) -> Result<Items<Node>, Stop>
+fn nodes_of(alloc: Global, known: &mut Items<Text>, gates: &[Gate]) -> Result<Items<Node>, Stop>
     ensures ok { IfOk result (λ n. n ≡ nodes_of known.old gates.now) }
     ensures known { OnOk result (known.new ≡ known.old ++ driven_nets gates.now) }
     ensures cause { IsErrOf result Stop.Refused → ⊥ }

@@ -181,9 +181,7 @@ fn is_the_output(cell: &Cell, names: &[Text]) -> bool
     ensures { result ≡ are_each_once (cell.now.output ∷ []) names.now }
 {
     let output = cell.output.as_bytes();
-    names.len() == 1
-        && is_distinct(names)
-        && names.iter().all(|name| output == name.as_bytes())
+    names.len() == 1 && is_distinct(names) && names.iter().all(|name| output == name.as_bytes())
 }
 
 // Whether the first net is new and each other one is known.

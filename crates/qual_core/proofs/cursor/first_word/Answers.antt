@@ -1,6 +1,5 @@
-use Rattle.std.proofs.Common.{◌≡◌, ◌<◌, sym, ◌∙◌, ap, arith}
-use Rattle.qual_core.specs.Tokens.{seen, word_length, BeginsToken}
-use Rattle.qual_core.specs.Reading.{word_in}
+use Rattle.std.proofs.Common.{◌≡◌, ◌<◌, arith}
+use Rattle.qual_core.specs.Tokens.{word_length, BeginsToken}
 use Rattle.qual_core.proofs.Cutting.{no_word, word_here}
 use Rattle.qual_core.proofs.cursor.first_word.Goals as goal
 

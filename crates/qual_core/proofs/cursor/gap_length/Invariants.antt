@@ -1,4 +1,4 @@
-use Rattle.std.proofs.Common.{◌≡◌, length, drop}
+use Rattle.std.proofs.Common.{◌≡◌, drop}
 use Rattle.qual_core.specs.Tokens.{tokens, without_line_ends}
 use Rattle.qual_core.proofs.cursor.gap_length.Given as goal
 

@@ -14,7 +14,7 @@ pub returns-in_err-pin : goal.returns-in_err-pin
 returns-in_err-pin c =
     let p = err_from_is_err_and c.from_residual.result c.from_residual.ensures.1 in
     rw (p.1, p.2) (hands_on c.in_err-pin.field-0.0 (pin_in c.takes.new.self) (pins_in c.args.at.now) c.read_pin.new.at c.read_pin.new.at c.in_err-pin.ensures
-      (λ h. sym c.loop-alloc.invariant ∙ many_stops (sign_in 125) pin_in (sign_shortens 125) pin_shrinks c.loop-alloc.pins c.loop-alloc.at c.loop-alloc-test.ensures.0 (ap pin_in (sym c.loop-alloc-test.ensures.1) ∙ h)))
+    (λ h. sym c.loop-alloc.invariant ∙ many_stops (sign_in 125) pin_in (sign_shortens 125) pin_shrinks c.loop-alloc.pins c.loop-alloc.at c.loop-alloc-test.ensures.0 (ap pin_in (sym c.loop-alloc-test.ensures.1) ∙ h)))
 
 pub loop-alloc-smaller : goal.loop-alloc-smaller
 loop-alloc-smaller c =

@@ -1,8 +1,8 @@
-use Rattle.std.proofs.Common.{◌≡◌, ◌<◌, ◌∙◌, sym, arith, length, None, Some}
+use Rattle.std.proofs.Common.{◌∙◌, sym, arith}
 use Rattle.std.proofs.lemmas.Result.{err_from_is_err_and}
 use Rattle.qual_core.specs.Reading.{joined_in}
 use Rattle.qual_core.specs.LibertyReading.{product_in, sum_in}
-use Rattle.qual_core.proofs.Fronts.{hands_on, no_front, joined_stops, joined_last, joined_more, with_front, sign_shortens}
+use Rattle.qual_core.proofs.Fronts.{hands_on, no_front, joined_stops, joined_last, joined_more, sign_shortens}
 use Rattle.qual_core.proofs.LibertyGrammar.{product_shrinks}
 use Rattle.qual_core.proofs.liberty.read_sum.Goals as goal
 

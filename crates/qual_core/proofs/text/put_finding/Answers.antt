@@ -1,5 +1,5 @@
-use Rattle.std.proofs.Common.{ap, ◌∙◌, ◌++◌, ◌∷◌, [], List, ℕ, codes, string_bytes}
-use Rattle.qual_core.specs.Compare.{text_of_lines, mismatch_tail}
+use Rattle.std.proofs.Common.{◌∙◌, codes}
+use Rattle.qual_core.specs.Compare.{mismatch_tail}
 use Rattle.qual_core.proofs.Lines.{line_of_parts}
 use Rattle.qual_core.proofs.text.put_finding.Goals as goal
 

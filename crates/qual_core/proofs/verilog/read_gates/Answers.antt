@@ -14,7 +14,7 @@ pub returns-in_err-gate : goal.returns-in_err-gate
 returns-in_err-gate c =
     let p = err_from_is_err_and c.from_residual.result c.from_residual.ensures.1 in
     rw (p.1, p.2) (hands_on c.in_err-gate.field-0.0 (gate_in c.takes_word.new.self) (gates_in c.args.at.now) c.read_gate.new.at c.read_gate.new.at c.in_err-gate.ensures
-      (λ h. sym c.loop-alloc.invariant ∙ many_stops (keyword_in (codes "endmodule")) gate_in (keyword_shortens (codes "endmodule")) gate_shrinks c.loop-alloc.gates c.loop-alloc.at c.loop-alloc-test.ensures.0 (ap gate_in (sym c.loop-alloc-test.ensures.1) ∙ h)))
+    (λ h. sym c.loop-alloc.invariant ∙ many_stops (keyword_in (codes "endmodule")) gate_in (keyword_shortens (codes "endmodule")) gate_shrinks c.loop-alloc.gates c.loop-alloc.at c.loop-alloc-test.ensures.0 (ap gate_in (sym c.loop-alloc-test.ensures.1) ∙ h)))
 
 pub loop-alloc-smaller : goal.loop-alloc-smaller
 loop-alloc-smaller c =

@@ -1,4 +1,4 @@
-use Rattle.std.proofs.Common.{◌≡◌, ◌∙◌, sym, ap, take, length}
+use Rattle.std.proofs.Common.{◌≡◌, ◌∙◌, sym, ap, length}
 use Rattle.qual_core.proofs.Settling.{values_front}
 use Rattle.qual_core.proofs.network.Network.row.Goals as goal
 
