@@ -1,5 +1,5 @@
 -- What a run answers, writes and asks for.
-use Rattle.std.specs.Prelude.{◌≡◌, ◌≤◌, ◌<◌, ◌+◌, ◌++◌, ◌⊎◌, ℕ, max, List, [], ◌∷◌, Option, Some, None, Bool, IsTrue, IsSome, IsSomeAnd, Vec, length}
+use Rattle.std.specs.Prelude.{◌≡◌, ◌≤◌, ◌<◌, ◌+◌, ◌++◌, ◌⊎◌, ℕ, max, List, [], ◌∷◌, Option, Some, None, Bool, if◌then◌else◌, IsTrue, IsSome, IsSomeAnd, Vec, length}
 use Rattle.std.specs.declared.alloc.Global.{Global}
 use Rattle.desk_ports.specs.Faults.{Rose}
 use Rattle.desk_ports.specs.Sink.{AppendsPart}
@@ -68,11 +68,17 @@ abbrev pub AreExpected : (List ℕ → Bool) → List (List ℕ) → Type 0
 AreExpected expects [] = Unit {0}
 AreExpected expects (name ∷ others) = IsTrue (expects name) × AreExpected expects others
 
--- Of these files each was started once at most and no other one was, and at most one byte was taken of each that is more than a file may have.
+-- how many of these names are not expected
+abbrev pub unexpected_count : (List ℕ → Bool) → List (List ℕ) → ℕ
+unexpected_count expects [] = 0
+unexpected_count expects (name ∷ others) = (if expects name then 0 else 1) + unexpected_count expects others
+
+-- No more files were started than are named, none of another name, and of each no more than one byte was taken beyond what a file may have. Since this holds whatever names are expected, `each` says of every name that it was started at most as often as it is named.
 pub record AsksFor (named : List (List ℕ)) (file : List ℕ → Option (List ℕ)) (expects : List ℕ → Bool) (old new : Asked) : Type 0 where
   pub starts : new.starts ≤ old.starts + length named
   pub missing : AreThere file named → new.missing ≡ old.missing
   pub unexpected : AreExpected expects named → new.unexpected ≡ old.unexpected
+  pub each : new.unexpected ≤ old.unexpected + unexpected_count expects named
   pub most : new.most ≤ max old.most (MAX_FILE + 1)
 
 -- what is answered where no fault and no want of memory stops the run

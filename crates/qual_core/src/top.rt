@@ -146,8 +146,8 @@ fn reply_to<S: Shelf>(alloc: Global, words: &[String], shelf: &mut S) -> Result<
 /// Does what the words say: it reads the files that they name, and writes one text.
 ///
 /// It writes the usage line where the words are no command, and the line of a refused file where
-/// one isn't read in its form. It starts each file once at most, in reading order, and reads no
-/// more than 1,048,577 bytes of it.
+/// one isn't read in its form. It starts each file that the words name at most once, no other one,
+/// and takes at most 1,048,577 bytes of each.
 pub fn qual<S: Shelf, K: Sink>(
     alloc: Global,
     words: &[String],
