@@ -5,6 +5,8 @@ ghost use Rattle.tern_core.specs.declared.tern.Tern.{Tern};
 ghost use Rattle.tern_core.specs.Order.{AreAtMost};
 ghost use Rattle.switch_response.specs.Walks.{Net, value_at, IsNet, IsResponse, HasSameGates};
 
+use crate::RESPONSES;
+
 /// Where one state is at most as known as another under equal pins, so are their responses; and so it is for all values
 /// of nodes, those of pins among them.
 pub fn monotone()
@@ -23,4 +25,9 @@ pub fn idempotent()
 /// The values of all nodes have one response.
 pub fn one_response()
     ensures { (n : Net) (values x y : List Tern) → IsNet n → IsResponse n values x → IsResponse n values y → x ≡ y }
+{}
+
+/// A wait makes 512 responses.
+pub fn a_wait_has_512_responses()
+    ensures { RESPONSES ≡ 512 }
 {}
