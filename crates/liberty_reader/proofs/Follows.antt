@@ -322,7 +322,7 @@ module _ (source : List ℕ) (limits : Limits) where
   -- ---- all of them
 
   pub step_ok : (p : Phase) (m : Machine) (t : Token) (ts : List Token) → IsPlaced p m.depth
-      → read_all (to_come source limits p m.depth m.room m.statements.word) m.statements (t ∷ ts) ≡ outcome source limits (step source limits t p m) t ts
+      → read_all (to_come source limits p m.depth m.room m.statements.word) m.statements (t ∷ ts) ≡ outcome source limits (step source limits t (look_of source t) p m) t ts
   unfolding step
   step_ok phases.Title m t ts d = title_ok (is_word (look_of source t) && is_library (text source t)) m t ts refl
   step_ok phases.TitleWord m t ts d = title_word_ok (look_of source t) m t ts refl

@@ -1,2 +1,6 @@
 pub mod Simple
 pub mod Follows
+pub mod Contents
+pub mod Columns
+pub mod Groups
+pub mod Takes

@@ -76,8 +76,15 @@ value_text source v = if v.first.span.start == v.last.span.start then content so
 unfoldable pub reads_node : List ℕ → Statements → Bool
 reads_node source s = s.passed == 0 && (is_group s.level && (is_pin s.group_kind && is_internal_node (attribute_kind (text source s.word))))
 
+unfoldable pub is_long : List ℕ → Limits → Value → Bool
+is_long source limits v = nat_lt limits.name (length (value_text source v))
+
+-- with this token the node's name is too long
+unfoldable pub is_refused : List ℕ → Limits → Token → Statements → Bool
+is_refused source limits t s = if reads_node source s then is_long source limits (grown t s.value) else false
+
 unfoldable pub add_value : List ℕ → Limits → Token → Statements → Outcome
-add_value source limits t s = if reads_node source s && nat_lt limits.name (length (value_text source (grown t s.value))) then Err too_long else Ok (record s { value = Some (grown t s.value) })
+add_value source limits t s = if is_refused source limits t s then Err too_long else Ok (record s { value = Some (grown t s.value) })
 
 -- an attribute directly in a group of a cell is kept where it says something
 unfoldable pub keep_value : Bool → AttributeKind → Value → Statements → Statements
@@ -101,10 +108,13 @@ settle source t s = Ok (settled source s)
 unfoldable pub pass : Statements → Statements
 pass s = record s { passed = s.passed + 1 }
 
+abbrev pub is_too_long : Limits → List ℕ → Bool
+is_too_long limits name = nat_lt limits.name (length name)
+
 -- a use of a name of a pin
 unfoldable pub add_pin_name : List ℕ → Limits → Token → List (List ℕ) → Result (List (List ℕ)) Refusal
 add_pin_name source limits t names =
-    if nat_lt limits.name (length (content source t)) then Err too_long else
+    if is_too_long limits (content source t) then Err too_long else
     if is_name (content source t) then (if is_known (content source t) names then Err (refusals.DoubleName t) else Ok (names ++ content source t ∷ []))
     else Ok names
 
@@ -114,11 +124,22 @@ add_pin_names source limits (t ∷ ts) names = add_pin_name source limits t name
 
 -- an argument of ff or latch is a name
 unfoldable pub is_long_variable : List ℕ → Limits → Token → Bool
-is_long_variable source limits t = nat_lt limits.name (length (content source t))
+is_long_variable source limits t = is_too_long limits (content source t)
+
+abbrev pub has_long_variable : List ℕ → Limits → List Token → Bool
+has_long_variable source limits [] = false
+has_long_variable source limits (t ∷ ts) = if is_long_variable source limits t then true else has_long_variable source limits ts
+
+abbrev pub has_long_column : Limits → List (List ℕ) → Bool
+has_long_column limits names = list_any (λ c. is_too_long limits c) names
 
 -- an argument of statetable has columns, which are names
 unfoldable pub is_long_row : List ℕ → Limits → Token → Bool
-is_long_row source limits t = list_any (λ c. nat_lt limits.name (length c)) (columns (content source t))
+is_long_row source limits t = has_long_column limits (columns (content source t))
+
+abbrev pub has_long_row : List ℕ → Limits → List Token → Bool
+has_long_row source limits [] = false
+has_long_row source limits (t ∷ ts) = if is_long_row source limits t then true else has_long_row source limits ts
 
 unfoldable pub unless_long : Bool → List (List ℕ) → Result (List (List ℕ)) Refusal
 unless_long b names = if b then Err too_long else Ok names
@@ -127,34 +148,35 @@ unless_long b names = if b then Err too_long else Ok names
 unfoldable pub add_names : List ℕ → Limits → GroupKind → List Token → List (List ℕ) → Result (List (List ℕ)) Refusal
 add_names source limits groups.Pin ts names = add_pin_names source limits ts names
 add_names source limits groups.PgPin ts names = add_pin_names source limits ts names
-add_names source limits groups.Ff ts names = unless_long (list_any (is_long_variable source limits) ts) names
-add_names source limits groups.Latch ts names = unless_long (list_any (is_long_variable source limits) ts) names
-add_names source limits groups.StateTable ts names = unless_long (list_any (is_long_row source limits) ts) names
+add_names source limits groups.Ff ts names = unless_long (has_long_variable source limits ts) names
+add_names source limits groups.Latch ts names = unless_long (has_long_variable source limits ts) names
+add_names source limits groups.StateTable ts names = unless_long (has_long_row source limits ts) names
 add_names source limits groups.Unread ts names = Ok names
 add_names source limits groups.Other ts names = Ok names
 
 unfoldable pub open_group : GroupKind → Statements → List (List ℕ) → Statements
 open_group kind s names = record s { level = levels.Group; group_kind = kind; group_word = s.word; group_args = s.args; args = []; pin_names = names }
 
+unfoldable pub enter_read_group : List ℕ → Limits → GroupKind → Statements → Outcome
+enter_read_group source limits kind s = add_names source limits kind s.args s.pin_names >>= λ names. Ok (open_group kind s names)
+
 unfoldable pub enter_group : List ℕ → Limits → GroupKind → Statements → Outcome
 enter_group source limits groups.Other s = Ok (pass s)
-enter_group source limits groups.Pin s = add_names source limits groups.Pin s.args s.pin_names >>= λ names. Ok (open_group groups.Pin s names)
-enter_group source limits groups.PgPin s = add_names source limits groups.PgPin s.args s.pin_names >>= λ names. Ok (open_group groups.PgPin s names)
-enter_group source limits groups.Ff s = add_names source limits groups.Ff s.args s.pin_names >>= λ names. Ok (open_group groups.Ff s names)
-enter_group source limits groups.Latch s = add_names source limits groups.Latch s.args s.pin_names >>= λ names. Ok (open_group groups.Latch s names)
-enter_group source limits groups.StateTable s = add_names source limits groups.StateTable s.args s.pin_names >>= λ names. Ok (open_group groups.StateTable s names)
-enter_group source limits groups.Unread s = add_names source limits groups.Unread s.args s.pin_names >>= λ names. Ok (open_group groups.Unread s names)
+enter_group source limits kind s = enter_read_group source limits kind s
 
 unfoldable pub open_cell : Statements → Token → List ℕ → Statements
 open_cell s t name = record s { level = levels.Cell; cell_word = s.word; cell_name = t; args = []; cell_names = s.cell_names ++ name ∷ [] }
 
--- a cell of this name: the number of cells comes first, then the name's length, whether it is one, and whether it is new
-unfoldable pub enter_cell : List ℕ → Limits → Token → Statements → Outcome
-enter_cell source limits t s =
-    if nat_le limits.cells (length s.cells) then Err (refusals.TooMany limit_kinds.Cells) else
-    if nat_lt limits.name (length (content source t)) then Err too_long else
-    if is_name (content source t) then (if is_known (content source t) s.cell_names then Err (refusals.DoubleName t) else Ok (open_cell s t (content source t)))
+-- a cell of this name: the name's length comes first, then whether it is one, and whether it is new
+unfoldable pub enter_named_cell : Limits → Token → List ℕ → Statements → Outcome
+enter_named_cell limits t name s =
+    if is_too_long limits name then Err too_long else
+    if is_name name then (if is_known name s.cell_names then Err (refusals.DoubleName t) else Ok (open_cell s t name))
     else Err (refusals.BadName t)
+
+-- the number of cells comes before the name
+unfoldable pub enter_cell : List ℕ → Limits → Token → Statements → Outcome
+enter_cell source limits t s = if nat_le limits.cells (length s.cells) then Err (refusals.TooMany limit_kinds.Cells) else enter_named_cell limits t (content source t) s
 
 -- a group cell with one argument is a cell
 unfoldable pub enter_in_library : List ℕ → Limits → List Token → Statements → Outcome
@@ -184,16 +206,22 @@ open_library n t s = nested n s
 
 unfoldable pub name_library : List ℕ → Limits → Token → Statements → Outcome
 name_library source limits t s =
-    if nat_lt limits.name (length (content source t)) then Err too_long else
+    if is_too_long limits (content source t) then Err too_long else
     if is_name (content source t) then Ok (record s { name = Some t }) else
     Err (refusals.BadName t)
 
 -- ---- groups end
 
+abbrev pub left_cell : Statements → Statements
+left_cell s = record s { level = levels.Library; cells = s.cells ++ record { word = s.cell_word; name = s.cell_name; groups = s.groups } ∷ []; groups = []; pin_names = [] }
+
+abbrev pub left_read_group : Statements → Statements
+left_read_group s = record s { level = levels.Cell; groups = s.groups ++ record { kind = s.group_kind; word = s.group_word; args = s.group_args; attributes = s.attributes } ∷ []; group_args = []; attributes = [] }
+
 abbrev pub leave_level : Level → Statements → Statements
 leave_level levels.Library s = s
-leave_level levels.Cell s = record s { level = levels.Library; cells = s.cells ++ record { word = s.cell_word; name = s.cell_name; groups = s.groups } ∷ []; groups = []; pin_names = [] }
-leave_level levels.Group s = record s { level = levels.Cell; groups = s.groups ++ record { kind = s.group_kind; word = s.group_word; args = s.group_args; attributes = s.attributes } ∷ []; group_args = []; attributes = [] }
+leave_level levels.Cell s = left_cell s
+leave_level levels.Group s = left_read_group s
 
 unfoldable pub left_group : Statements → Statements
 left_group s = if s.passed == 0 then leave_level s.level s else record s { passed = s.passed - 1 }

@@ -20,11 +20,15 @@ is_string kinds.End = false
 unfoldable pub shown_byte : ℕ → ℕ
 shown_byte b = if b == 10 then 32 else b
 
+-- a backslash before an LF
+abbrev pub joins_lines : List ℕ → Bool
+joins_lines bs = begins_with_pair 92 10 bs
+
 -- the bytes of a string without those that join two lines; the first is one of them where joined is true
 abbrev pub unjoined : Bool → List ℕ → List ℕ
 unjoined joined [] = []
 unjoined true (b ∷ bs) = unjoined false bs
-unjoined false (b ∷ bs) = if begins_with_pair 92 10 (b ∷ bs) then unjoined true bs else shown_byte b ∷ unjoined false bs
+unjoined false (b ∷ bs) = if joins_lines (b ∷ bs) then unjoined true bs else shown_byte b ∷ unjoined false bs
 
 -- what stands between a string's quotes
 unfoldable pub inside : List ℕ → Token → List ℕ
@@ -45,9 +49,12 @@ is_name_byte b = nat_le 33 b && (nat_le b 126 && (if is_no_name_byte b then fals
 unfoldable pub is_mark : List ℕ → Bool
 is_mark bs = bytes_eq bs (45 ∷ []) || bytes_eq bs (42 ∷ [])
 
+abbrev pub has_name_bytes : List ℕ → Bool
+has_name_bytes bs = list_all is_name_byte bs
+
 -- a name, but for its greatest length, which is a limit
 unfoldable pub is_name : List ℕ → Bool
-is_name bs = nat_lt 0 (length bs) && (list_all is_name_byte bs && (if is_mark bs then false else true))
+is_name bs = nat_lt 0 (length bs) && (has_name_bytes bs && (if is_mark bs then false else true))
 
 unfoldable pub is_known : List ℕ → List (List ℕ) → Bool
 is_known name names = list_any (λ n. bytes_eq n name) names
@@ -66,8 +73,3 @@ columns_from column (b ∷ bs) = if is_break b then ended_column column (columns
 
 unfoldable pub columns : List ℕ → List (List ℕ)
 columns bs = columns_from [] bs
-
--- the length of the longest column, where so many bytes of one are read
-abbrev pub longest_from : ℕ → List ℕ → ℕ → Bool
-longest_from limit [] run = nat_lt limit run
-longest_from limit (b ∷ bs) run = if is_break b then nat_lt limit run || longest_from limit bs 0 else longest_from limit bs (run + 1)

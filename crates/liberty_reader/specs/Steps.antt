@@ -27,6 +27,9 @@ abbrev pub moved : Phase → Machine → Outcome → Moved
 moved p m (Ok s) = Ok (record m { phase = p; statements = s })
 moved p m (Err e) = Err (halts.Refused e)
 
+abbrev pub deeper : Machine → Machine
+deeper m = record { phase = phases.Statement; depth = m.depth + 1; room = m.room - 1; statements = m.statements }
+
 -- one group deeper
 abbrev pub deepened : Machine → Outcome → Moved
 deepened m (Ok s) = Ok (record { phase = phases.Statement; depth = m.depth + 1; room = m.room - 1; statements = s })
@@ -116,22 +119,28 @@ abbrev pub in_semicolon : Look → Machine → Moved
 in_semicolon looks.End m = Ok (to_phase phases.File m)
 in_semicolon _ m = stopped
 
-unfoldable pub step : List ℕ → Limits → Token → Phase → Machine → Moved
-step source limits t phases.Title m = in_title (is_word (look_of source t) && is_library (text source t)) m
-step source limits t phases.TitleWord m = in_title_word (look_of source t) m
-step source limits t phases.TitleOpen m = in_title_open source limits t (look_of source t) m
-step source limits t phases.TitleName m = in_title_name (look_of source t) m
-step source limits t phases.TitleClosed m = in_title_closed t (look_of source t) m
-step source limits t phases.Statement m = in_statement source t (look_of source t) m
-step source limits t phases.Word m = in_word (look_of source t) m
-step source limits t phases.Value m = in_value source limits t (look_of source t) m
-step source limits t phases.Open m = in_open t (look_of source t) m
-step source limits t phases.Arg m = in_arg t (look_of source t) m
-step source limits t phases.Comma m = in_comma t (look_of source t) m
-step source limits t phases.Closed m = in_closed source limits t (look_of source t) m
-step source limits t phases.Library m = in_library (look_of source t) m
-step source limits t phases.Semicolon m = in_semicolon (look_of source t) m
-step source limits t phases.File m = stopped
+abbrev pub in_titles : List ℕ → Limits → Token → Look → Phase → Machine → Moved
+in_titles source limits t l phases.Title m = in_title (is_word l && is_library (text source t)) m
+in_titles source limits t l phases.TitleWord m = in_title_word l m
+in_titles source limits t l phases.TitleOpen m = in_title_open source limits t l m
+in_titles source limits t l phases.TitleName m = in_title_name l m
+in_titles source limits t l phases.TitleClosed m = in_title_closed t l m
+in_titles source limits t l _ m = stopped
+
+abbrev pub in_args : List ℕ → Limits → Token → Look → Phase → Machine → Moved
+in_args source limits t l phases.Word m = in_word l m
+in_args source limits t l phases.Open m = in_open t l m
+in_args source limits t l phases.Arg m = in_arg t l m
+in_args source limits t l phases.Comma m = in_comma t l m
+in_args source limits t l phases.Closed m = in_closed source limits t l m
+in_args source limits t l p m = in_titles source limits t l p m
+
+unfoldable pub step : List ℕ → Limits → Token → Look → Phase → Machine → Moved
+step source limits t l phases.Statement m = in_statement source t l m
+step source limits t l phases.Value m = in_value source limits t l m
+step source limits t l phases.Library m = in_library l m
+step source limits t l phases.Semicolon m = in_semicolon l m
+step source limits t l p m = in_args source limits t l p m
 
 abbrev pub is_in_value : Phase → Bool
 is_in_value phases.Value = true
@@ -143,4 +152,4 @@ step_if false next m = Ok m
 
 -- a token, which may be a line's end that is a blank
 unfoldable pub taken : List ℕ → Limits → Token → Machine → Moved
-taken source limits t m = step_if (shows (is_in_value m.phase) (look_of source t)) (step source limits t m.phase m) m
+taken source limits t m = step_if (shows (is_in_value m.phase) (look_of source t)) (step source limits t (look_of source t) m.phase m) m

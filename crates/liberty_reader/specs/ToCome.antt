@@ -78,9 +78,3 @@ IsPlaced phases.Closed depth = 1 ≤ depth
 IsPlaced phases.Library depth = Unit {0}
 IsPlaced phases.Semicolon depth = Unit {0}
 IsPlaced phases.File depth = Unit {0}
-
--- what holds between two tokens
-pub record IsSound (m : Machine) : Type 0 where
-  pub placed : IsPlaced m.phase m.depth
-  pub passed : m.statements.passed ≤ m.depth
-  pub small : m.depth + m.room < 2 ^ 32

@@ -1,15 +1,19 @@
 //! Reads a Liberty library.
 #![tactic(auto)]
 
+mod actions;
+mod entering;
 mod halt;
 mod kinds;
 mod look;
 mod machine;
+mod names;
 mod statements;
+mod steps;
 
 ghost use Rattle.std.specs.Prelude.{◌≡◌};
 
-#[tactic(auto, using(crate::proofs::Follows::bind_assoc))]
+#[tactic(auto, using(crate::proofs::Takes::take_ok))]
 pub fn dummy(x: u8) -> u8
     ensures { result ≡ x }
 {

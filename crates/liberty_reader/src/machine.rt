@@ -1,4 +1,4 @@
-//! The state of a reader between two tokens.
+//! The state of a reader between two tokens, and what a token changes in it.
 use crate::statements::Statements;
 
 /// What was read last.
