@@ -1,6 +1,6 @@
 -- The content of strings, a byte further.
-use Rattle.std.proofs.Common.{◌≡◌, ℕ, zero, suc, ◌+◌, ◌<◌, ◌≤◌, Bool, true, false, List, [], ◌∷◌, ◌++◌, length, drop, get_or, refl, sym, ap, subst, ◌∙◌, append_assoc, arith}
-use Rattle.std.proofs.lemmas.List.{drop_more, append-nil}
+use Rattle.std.proofs.Common.{◌≡◌, ℕ, zero, suc, ◌+◌, ◌<◌, ◌≤◌, Bool, true, false, List, [], ◌∷◌, ◌++◌, length, take, drop, length-drop, ◌-◌, get_or, refl, sym, ap, subst, ◌∙◌, append_assoc, arith}
+use Rattle.std.proofs.lemmas.List.{drop_more, take_all}
 use Rattle.std.proofs.Math.Seq.{drop-nil}
 use Rattle.std.proofs.Math.ListN.{drop_of_length-le}
 use Rattle.liberty_reader.specs.Names.{unjoined, joins_lines, shown_byte}
@@ -28,3 +28,6 @@ pub drop_one : (bs : List ℕ) (at : ℕ) → drop 1 (drop at bs) ≡ drop (at +
 drop_one [] at = ap (drop 1) (drop-nil at) ∙ drop-nil 1 ∙ sym (drop-nil (at + 1))
 drop_one (b ∷ bs) zero = refl
 drop_one (b ∷ bs) (suc n) = let e : suc n + 1 ≡ suc (n + 1) = omega arith in rw e (drop_one bs n)
+
+pub tail_is : (bs : List ℕ) (at : ℕ) → take (length bs - at) (drop at bs) ≡ drop at bs
+tail_is bs at = take_all (length bs - at) (drop at bs) (omega (arith, length-drop at bs))

@@ -4,3 +4,5 @@ pub mod Contents
 pub mod Columns
 pub mod Groups
 pub mod Takes
+pub mod WholeText
+pub mod CellLists

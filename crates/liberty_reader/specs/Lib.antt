@@ -7,3 +7,5 @@ pub mod Steps
 pub mod ToCome
 pub mod Does
 pub mod Bounds
+pub mod Answer
+pub mod Cells

@@ -8,7 +8,7 @@ use crate::kinds::{AttributeKind, GroupKind, attribute_kind};
 use crate::names::{between, content, text};
 use crate::statements::{Attribute, Level, Statements, Value};
 use std::alloc::Global;
-use text_scan::{Items, Kind, LimitKind, Limits, NoMemory, Span, Token};
+use text_scan::{Items, Kind, LimitKind, Limits, NoMemory, Span, Text, Token};
 
 fn no_token() -> Token
     ensures { result ≡ no_token }
@@ -65,18 +65,25 @@ fn grown(token: Token, value: Option<Value>) -> Value
     Value { first, last: token }
 }
 
+/// A value of one token is its content; one of several is the text from the first to the last as it stands.
+#[tactic(auto, unfolding(crate::specs::Actions::value_text))]
+pub fn value_text(alloc: Global, source: &[u8], value: Value) -> Result<Text, NoMemory>
+    ensures { IfOk result (λ t. t ≡ spec.value_text source.now value) }
+{
+    if value.first.span.start == value.last.span.start {
+        content(alloc, source, value.first)
+    } else {
+        Text::from_bytes(alloc, between(source, value.first, value.last))
+    }
+}
+
 /// Whether a value has more bytes than a name may have.
-#[tactic(auto, unfolding(crate::specs::Actions::value_text, crate::specs::Actions::is_long))]
+#[tactic(auto, unfolding(crate::specs::Actions::is_long))]
 fn is_long(alloc: Global, source: &[u8], limits: &Limits, value: Value) -> Result<bool, NoMemory>
     ensures { IfOk result (λ long. long ≡ spec.is_long source.now limits.now value) }
 {
-    let limit = limits.name as usize;
-    if value.first.span.start == value.last.span.start {
-        let shown = content(alloc, source, value.first)?;
-        Ok(limit < shown.as_bytes().len())
-    } else {
-        Ok(limit < between(source, value.first, value.last).len())
-    }
+    let shown = value_text(alloc, source, value)?;
+    Ok((limits.name as usize) < shown.as_bytes().len())
 }
 
 impl Statements {
