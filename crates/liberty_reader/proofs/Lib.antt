@@ -6,3 +6,5 @@ pub mod Groups
 pub mod Takes
 pub mod WholeText
 pub mod CellLists
+pub mod Made
+pub mod Public

@@ -156,15 +156,30 @@ refuses_state source s = earlier (refuses_word s.clocked_on_also) (earlier (refu
 abbrev pub refuses_second : Bool → Token → Option Construct → Option Construct
 refuses_second second word next = if second then Some (at_word word) else next
 
+abbrev pub refuses_pin : List ℕ → Token → List Token → Slots → Option Construct
+refuses_pin source word args s = earlier (bad_arg source args) (earlier (refuses_direction source word s.direction) (earlier (refuses_node source s.internal_node) (earlier (refuses_word s.input_map) (refuses_word s.three_state))))
+
+abbrev pub refuses_pg_pin : List ℕ → Token → List Token → Slots → Option Construct
+refuses_pg_pin source word args s = earlier (bad_arg source args) (refuses_supply source word s.pg_type)
+
+abbrev pub refuses_storage : List ℕ → Bool → Token → List Token → Slots → Option Construct
+refuses_storage source second word args s = refuses_second second word (if are_variables source args then refuses_state source s else Some (at_word word))
+
+abbrev pub refuses_rows : List ℕ → Bool → Token → List Token → Option Construct
+refuses_rows source second word args = refuses_second second word (if are_strings args then bad_column source args else Some (at_word word))
+
 -- the first thing in a group that isn't read; a state group is second where one stands before it
 unfoldable pub refuses : List ℕ → Bool → GroupKind → Token → List Token → Slots → Option Construct
-refuses source second groups.Pin word args s = earlier (bad_arg source args) (earlier (refuses_direction source word s.direction) (earlier (refuses_node source s.internal_node) (earlier (refuses_word s.input_map) (refuses_word s.three_state))))
-refuses source second groups.PgPin word args s = earlier (bad_arg source args) (refuses_supply source word s.pg_type)
-refuses source second groups.Ff word args s = refuses_second second word (if are_variables source args then refuses_state source s else Some (at_word word))
-refuses source second groups.Latch word args s = refuses_second second word (if are_variables source args then refuses_state source s else Some (at_word word))
-refuses source second groups.StateTable word args s = refuses_second second word (if are_strings args then bad_column source args else Some (at_word word))
+refuses source second groups.Pin word args s = refuses_pin source word args s
+refuses source second groups.PgPin word args s = refuses_pg_pin source word args s
+refuses source second groups.Ff word args s = refuses_storage source second word args s
+refuses source second groups.Latch word args s = refuses_storage source second word args s
+refuses source second groups.StateTable word args s = refuses_rows source second word args
 refuses source second groups.Unread word args s = Some (at_word word)
 refuses source second groups.Other word args s = None
+
+abbrev pub group_refuses : List ℕ → Bool → Group → Option Construct
+group_refuses source second g = refuses source second g.kind g.word g.args (last_of g.attributes)
 
 abbrev pub is_state : GroupKind → Bool
 is_state groups.Ff = true
@@ -172,28 +187,37 @@ is_state groups.Latch = true
 is_state groups.StateTable = true
 is_state _ = false
 
+abbrev pub or_first : Option Construct → Option Construct → Option Construct
+or_first None rest = rest
+or_first (Some c) rest = Some c
+
 -- the first thing in a cell that isn't read
 abbrev pub first_refused : List ℕ → Bool → List Group → Option Construct
 first_refused source second [] = None
-first_refused source second (g ∷ gs) = first_of (refuses source second g.kind g.word g.args (last_of g.attributes)) (first_refused source (second || is_state g.kind) gs)
-  where
-    first_of : Option Construct → Option Construct → Option Construct
-    first_of None rest = rest
-    first_of (Some c) rest = Some c
+first_refused source second (g ∷ gs) = or_first (group_refuses source second g) (first_refused source (second || is_state g.kind) gs)
 
 -- ---- the words of constructs
 
 abbrev pub is_graphic : ℕ → Bool
 is_graphic b = nat_le 33 b && nat_le b 126
 
--- a word that can't be shown
+abbrev pub are_graphic : List ℕ → Bool
+are_graphic w = list_all is_graphic w
+
+abbrev pub is_shown : List ℕ → Bool
+is_shown w = nat_lt 0 (length w) && (nat_le (length w) 128 && are_graphic w)
+
+abbrev pub shown_string : List ℕ → List ℕ
+shown_string s = if is_name s && nat_le (length s) 128 then s else codes "string"
+
+-- a word that can't be shown is wide
 abbrev pub shown_word : List ℕ → List ℕ
-shown_word w = if nat_lt 0 (length w) && (nat_le (length w) 128 && list_all is_graphic w) then w else codes "wide"
+shown_word w = if is_shown w then w else codes "wide"
 
 -- a string is shown by its content where that is a name
 unfoldable pub word_of : List ℕ → Token → List ℕ
 word_of source t = if is_string t.kind
-    then (if is_name (content source t) && nat_le (length (content source t)) 128 then content source t else codes "string")
+    then shown_string (content source t)
     else shown_word (text source t)
 
 -- ---- pins
@@ -234,9 +258,12 @@ group_pins source groups.Pin args s = map (pin source s) args
 group_pins source groups.PgPin args s = map (supply source s) args
 group_pins source _ args s = []
 
+abbrev pub pins_of : List ℕ → Group → List LibertyPin
+pins_of source g = group_pins source g.kind g.args (last_of g.attributes)
+
 abbrev pub pins : List ℕ → List Group → List LibertyPin
 pins source [] = []
-pins source (g ∷ gs) = group_pins source g.kind g.args (last_of g.attributes) ++ pins source gs
+pins source (g ∷ gs) = pins_of source g ++ pins source gs
 
 -- ---- the state
 
@@ -251,47 +278,77 @@ abbrev pub both : List ℕ → Option Attribute → Both
 both source None = boths.Unknown
 both source (Some a) = both_of (value_text source a.value)
 
--- a group of this kind as the state, where its arguments are two
-unfoldable pub group_state : List ℕ → GroupKind → Token → List Token → Slots → StateGroup → StateGroup
-group_state source groups.Ff word (a ∷ b ∷ []) s before = states.Ff (record {
+abbrev pub table_text : List ℕ → Option Attribute → List ℕ
+table_text source None = []
+table_text source (Some a) = value_text source a.value
+
+abbrev pub two_contents : List ℕ → Token → Token → List (List ℕ)
+two_contents source a b = content source a ∷ content source b ∷ []
+
+abbrev pub two_boths : List ℕ → Slots → List Both
+two_boths source s = both source s.first_both ∷ both source s.second_both ∷ []
+
+abbrev pub flip_flop : List ℕ → Token → Token → Token → Slots → FfText
+flip_flop source word a b s = record {
   line = word.span.line;
-  variables = content source a ∷ content source b ∷ [];
+  variables = two_contents source a b;
   next_state = shown_value source s.next_state;
   clocked_on = shown_value source s.clocked_on;
   clear = shown_value source s.clear;
   preset = shown_value source s.preset;
-  both = both source s.first_both ∷ both source s.second_both ∷ [];
-})
-group_state source groups.Latch word (a ∷ b ∷ []) s before = states.Latch (record {
+  both = two_boths source s;
+}
+
+abbrev pub latch : List ℕ → Token → Token → Token → Slots → LatchText
+latch source word a b s = record {
   line = word.span.line;
-  variables = content source a ∷ content source b ∷ [];
+  variables = two_contents source a b;
   enable = shown_value source s.enable;
   data_in = shown_value source s.data_in;
   clear = shown_value source s.clear;
   preset = shown_value source s.preset;
-  both = both source s.first_both ∷ both source s.second_both ∷ [];
-})
-group_state source groups.StateTable word (a ∷ b ∷ []) s before = states.Rows (record {
+  both = two_boths source s;
+}
+
+abbrev pub rows : List ℕ → Token → Token → Token → Slots → RowsText
+rows source word a b s = record {
   line = word.span.line;
   inputs = columns (content source a);
   nodes = columns (content source b);
   table = table_text source s.table;
-})
-  where
-    table_text : List ℕ → Option Attribute → List ℕ
-    table_text source None = []
-    table_text source (Some a) = value_text source a.value
-group_state source kind word args s before = before
+}
+
+abbrev pub state_by : List ℕ → GroupKind → Token → Token → Token → Slots → StateGroup → StateGroup
+state_by source groups.Ff word a b s before = states.Ff (flip_flop source word a b s)
+state_by source groups.Latch word a b s before = states.Latch (latch source word a b s)
+state_by source groups.StateTable word a b s before = states.Rows (rows source word a b s)
+state_by source _ word a b s before = before
+
+-- a group of two arguments as the state
+abbrev pub state_of_two : List ℕ → Group → Token → Token → StateGroup → StateGroup
+state_of_two source g a b before = state_by source g.kind g.word a b (last_of g.attributes) before
+
+unfoldable pub group_state : List ℕ → Group → List Token → StateGroup → StateGroup
+group_state source g (a ∷ b ∷ []) before = state_of_two source g a b before
+group_state source g [] before = before
+group_state source g (a ∷ []) before = before
+group_state source g (a ∷ b ∷ c ∷ cs) before = before
 
 abbrev pub state : List ℕ → List Group → StateGroup → StateGroup
 state source [] before = before
-state source (g ∷ gs) before = state source gs (group_state source g.kind g.word g.args (last_of g.attributes) before)
+state source (g ∷ gs) before = state source gs (group_state source g g.args before)
 
 -- ---- cells and the library
 
+abbrev pub whole : List ℕ → CellText → LibertyCell
+whole source cell = record { name = content source cell.name; line = cell.word.span.line; pins = pins source cell.groups; state = state source cell.groups states.Stateless }
+
+abbrev pub refused : List ℕ → CellText → Construct → CellPart
+refused source cell c = parts.Refused (content source cell.name) (word_of source c.word) c.word.span.line
+
 abbrev pub part : List ℕ → CellText → Option Construct → CellPart
-part source cell None = parts.Whole (record { name = content source cell.name; line = cell.word.span.line; pins = pins source cell.groups; state = state source cell.groups states.Stateless })
-part source cell (Some c) = parts.Refused (content source cell.name) (word_of source c.word) c.word.span.line
+part source cell None = parts.Whole (whole source cell)
+part source cell (Some c) = refused source cell c
 
 unfoldable pub cell_part : List ℕ → CellText → CellPart
 cell_part source cell = part source cell (first_refused source false cell.groups)

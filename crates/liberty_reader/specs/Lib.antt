@@ -9,3 +9,4 @@ pub mod Does
 pub mod Bounds
 pub mod Answer
 pub mod Cells
+pub mod Promise

@@ -1,13 +1,15 @@
 //! What a cell makes of its statements.
-ghost use Rattle.std.specs.Prelude.{◌≡◌, IfOk};
+ghost use Rattle.std.specs.Prelude.{◌≡◌, IfOk, false};
+ghost use Rattle.std.specs.List.{list_all};
+ghost use Rattle.liberty_reader.specs.Names as names;
 ghost use Rattle.liberty_reader.specs.Cells as spec;
 
-use crate::kinds::AttributeKind;
+use crate::kinds::{AttributeKind, GroupKind};
 use crate::actions::value_text;
-use crate::names::{content, is_name};
-use crate::statements::Attribute;
+use crate::names::{columns, content, is_name};
+use crate::statements::{Attribute, Group};
 use std::alloc::Global;
-use text_scan::{Direction, NoMemory, Token};
+use text_scan::{Direction, Kind, NoMemory, Text, Token};
 
 /// The last attribute of each kind.
 #[derive(Clone, Copy, Debug)]
@@ -140,7 +142,7 @@ fn refuses_word(attribute: Option<Attribute>) -> Option<Construct>
     }
 }
 
-fn direction_of(value: &[u8]) -> Direction
+pub fn direction_of(value: &[u8]) -> Direction
     ensures { result ≡ spec.direction_of value.now }
 {
     if value == b"input".as_slice() {
@@ -160,7 +162,7 @@ fn is_absent(direction: Direction) -> bool
     matches!(direction, Direction::Absent)
 }
 
-fn is_power(value: &[u8]) -> bool
+pub fn is_power(value: &[u8]) -> bool
     ensures { result ≡ spec.is_power value.now }
 {
     value == b"primary_power".as_slice() || value == b"nwell".as_slice()
@@ -278,4 +280,208 @@ fn refuses_both(
             }
         }
     }
+}
+
+#[tactic(auto, using(crate::proofs::CellLists::good_column, crate::proofs::CellLists::bad_column_here, crate::proofs::CellLists::no_bad_column))]
+fn bad_column(
+    alloc: Global,
+    source: &[u8],
+    args: &[Token],
+) -> Result<Option<Construct>, NoMemory>
+    ensures { IfOk result (λ c. c ≡ spec.bad_column source.now args.now) }
+{
+    for at in 0..args.len() {
+        if !are_columns(alloc, source, args[at])? {
+            return Ok(Some(at_word(args[at])));
+        }
+    }
+    Ok(None)
+}
+
+fn are_names(texts: &[Text]) -> bool
+    ensures { result ≡ list_all names.is_name texts.now }
+{
+    texts.iter().all(|text| is_name(text.as_bytes()))
+}
+
+fn are_columns(alloc: Global, source: &[u8], token: Token) -> Result<bool, NoMemory>
+    ensures { IfOk result (λ all. all ≡ list_all names.is_name (names.columns (names.content source.now token))) }
+{
+    let row = content(alloc, source, token)?;
+    let found = columns(alloc, row.as_bytes())?;
+    Ok(are_names(found.as_slice()))
+}
+
+fn is_name_token(alloc: Global, source: &[u8], token: Token) -> Result<bool, NoMemory>
+    ensures { IfOk result (λ is. is ≡ names.is_name (names.content source.now token)) }
+{
+    let name = content(alloc, source, token)?;
+    Ok(is_name(name.as_bytes()))
+}
+
+#[tactic(auto, using(crate::proofs::CellLists::two_variables, crate::proofs::CellLists::not_two_variables))]
+fn are_variables(alloc: Global, source: &[u8], args: &[Token]) -> Result<bool, NoMemory>
+    ensures { IfOk result (λ are. are ≡ spec.are_variables source.now args.now) }
+{
+    if args.len() != 2 {
+        return Ok(false);
+    }
+    let first = is_name_token(alloc, source, args[0])?;
+    let second = is_name_token(alloc, source, args[1])?;
+    Ok(first && second)
+}
+
+pub fn is_string(kind: Kind) -> bool
+    ensures { result ≡ names.is_string kind }
+{
+    matches!(kind, Kind::Str)
+}
+
+#[tactic(auto, using(crate::proofs::CellLists::two_strings, crate::proofs::CellLists::not_two_strings))]
+fn are_strings(args: &[Token]) -> bool
+    ensures { result ≡ spec.are_strings args.now }
+{
+    if args.len() != 2 {
+        return false;
+    }
+    is_string(args[0].kind) && is_string(args[1].kind)
+}
+
+fn refuses_state(
+    alloc: Global,
+    source: &[u8],
+    slots: &Slots,
+) -> Result<Option<Construct>, NoMemory>
+    ensures { IfOk result (λ c. c ≡ spec.refuses_state source.now slots.now) }
+{
+    let first = refuses_both(alloc, source, slots.first_both)?;
+    let second = refuses_both(alloc, source, slots.second_both)?;
+    Ok(earlier(refuses_word(slots.clocked_on_also), earlier(first, second)))
+}
+
+fn refuses_pin(
+    alloc: Global,
+    source: &[u8],
+    group: &Group,
+    slots: &Slots,
+) -> Result<Option<Construct>, NoMemory>
+    ensures { IfOk result (λ c. c ≡ spec.refuses_pin source.now group.now.word group.now.args slots.now) }
+{
+    let arg = bad_arg(alloc, source, group.args.as_slice())?;
+    let direction = refuses_direction(alloc, source, group.word, slots.direction)?;
+    let node = refuses_node(alloc, source, slots.internal_node)?;
+    let words = earlier(refuses_word(slots.input_map), refuses_word(slots.three_state));
+    Ok(earlier(arg, earlier(direction, earlier(node, words))))
+}
+
+fn refuses_pg_pin(
+    alloc: Global,
+    source: &[u8],
+    group: &Group,
+    slots: &Slots,
+) -> Result<Option<Construct>, NoMemory>
+    ensures { IfOk result (λ c. c ≡ spec.refuses_pg_pin source.now group.now.word group.now.args slots.now) }
+{
+    let arg = bad_arg(alloc, source, group.args.as_slice())?;
+    let supply = refuses_supply(alloc, source, group.word, slots.pg_type)?;
+    Ok(earlier(arg, supply))
+}
+
+fn refuses_storage(
+    alloc: Global,
+    source: &[u8],
+    second: bool,
+    group: &Group,
+    slots: &Slots,
+) -> Result<Option<Construct>, NoMemory>
+    ensures { IfOk result (λ c. c ≡ spec.refuses_storage source.now second group.now.word group.now.args slots.now) }
+{
+    if second {
+        return Ok(Some(at_word(group.word)));
+    }
+    if are_variables(alloc, source, group.args.as_slice())? {
+        refuses_state(alloc, source, slots)
+    } else {
+        Ok(Some(at_word(group.word)))
+    }
+}
+
+fn refuses_rows(
+    alloc: Global,
+    source: &[u8],
+    second: bool,
+    group: &Group,
+) -> Result<Option<Construct>, NoMemory>
+    ensures { IfOk result (λ c. c ≡ spec.refuses_rows source.now second group.now.word group.now.args) }
+{
+    if second {
+        return Ok(Some(at_word(group.word)));
+    }
+    if are_strings(group.args.as_slice()) {
+        bad_column(alloc, source, group.args.as_slice())
+    } else {
+        Ok(Some(at_word(group.word)))
+    }
+}
+
+// The first thing in a group that isn't read.
+#[tactic(auto, unfolding(crate::specs::Cells::refuses))]
+fn refuses(
+    alloc: Global,
+    source: &[u8],
+    second: bool,
+    group: &Group,
+    slots: &Slots,
+) -> Result<Option<Construct>, NoMemory>
+    ensures { IfOk result (λ c. c ≡ spec.refuses source.now second group.now.kind group.now.word group.now.args slots.now) }
+{
+    match group.kind {
+        GroupKind::Pin => refuses_pin(alloc, source, group, slots),
+        GroupKind::PgPin => refuses_pg_pin(alloc, source, group, slots),
+        GroupKind::Ff | GroupKind::Latch => refuses_storage(alloc, source, second, group, slots),
+        GroupKind::StateTable => refuses_rows(alloc, source, second, group),
+        GroupKind::Unread => Ok(Some(at_word(group.word))),
+        GroupKind::Other => Ok(None),
+    }
+}
+
+fn is_state(kind: GroupKind) -> bool
+    ensures { result ≡ spec.is_state kind }
+{
+    matches!(
+        kind,
+        GroupKind::Ff | GroupKind::Latch | GroupKind::StateTable
+    )
+}
+
+fn group_refuses(
+    alloc: Global,
+    source: &[u8],
+    second: bool,
+    group: &Group,
+) -> Result<Option<Construct>, NoMemory>
+    ensures { IfOk result (λ c. c ≡ spec.group_refuses source.now second group.now) }
+{
+    let slots = last_of(group.attributes.as_slice());
+    refuses(alloc, source, second, group, &slots)
+}
+
+// The first thing in a cell that isn't read.
+#[tactic(auto, using(crate::proofs::CellLists::next_group, crate::proofs::CellLists::refused_here, crate::proofs::CellLists::no_group))]
+pub fn first_refused(
+    alloc: Global,
+    source: &[u8],
+    groups: &[Group],
+) -> Result<Option<Construct>, NoMemory>
+    ensures { IfOk result (λ c. c ≡ spec.first_refused source.now false groups.now) }
+{
+    let mut second = false;
+    for at in 0..groups.len() {
+        let group = &groups[at];
+        if let Some(construct) = group_refuses(alloc, source, second, group)? {
+            return Ok(Some(construct));
+        }
+        second = second || is_state(group.kind);
+    }
+    Ok(None)
 }
