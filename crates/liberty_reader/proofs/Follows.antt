@@ -1,28 +1,26 @@
 -- Each token leads to what the grammar says.
-use Rattle.std.proofs.Common.{◌≡◌, ℕ, zero, suc, ◌+◌, ◌-◌, ◌≤◌, leb, eqb, ◌++◌, add-one, Bool, true, false, cond, ◌||◌, ◌&&◌, List, [], ◌∷◌, Result, Ok, Err, refl, sym, ap, subst, ◌∙◌, arith}
+use Rattle.std.proofs.Common.{◌≡◌, ℕ, zero, suc, ◌+◌, ◌-◌, ◌≤◌, leb, eqb, ◌++◌, Bool, true, false, cond, ◌||◌, ◌&&◌, List, [], ◌∷◌, Result, Ok, Err, refl, ap, ◌∙◌, arith}
 use Rattle.std.proofs.lemmas.Bool.{leb-true}
 use Rattle.text_scan.specs.declared.token.Token.{Token}
 use Rattle.text_scan.specs.declared.limits.Limits.{Limits}
-use Rattle.grammar.specs.Rule.{Rule, none, one, before, seq, alt, many}
-use Rattle.grammar.specs.Reading.{Stop, syntax, refusal, short, starts, begins, acting, ◌>>=◌, read}
+use Rattle.grammar.specs.Rule.{none, seq}
+use Rattle.grammar.specs.Reading.{Stop, syntax, refusal, begins, acting, ◌>>=◌, read}
 use Rattle.grammar.specs.Answers.{read_all, to_end}
 use Rattle.grammar.proofs.Stops.{many_turn, many_end}
 use Rattle.liberty_reader.specs.declared.halt.Refusal.{Refusal}
-use Rattle.liberty_reader.specs.declared.halt.Halt.{Halt}
-use Rattle.liberty_reader.specs.declared.halt.Halt.TheVariants as halts
 use Rattle.liberty_reader.specs.declared.look.Look.{Look}
 use Rattle.liberty_reader.specs.declared.look.Look.TheVariants as looks
 use Rattle.liberty_reader.specs.declared.machine.Phase.{Phase}
 use Rattle.liberty_reader.specs.declared.machine.Phase.TheVariants as phases
 use Rattle.liberty_reader.specs.declared.machine.Machine.{Machine}
 use Rattle.liberty_reader.specs.declared.statements.Statements.{Statements}
-use Rattle.liberty_reader.specs.Looks.{look_of, text, is_word, is_arg, is_value, is_open_paren, is_close_paren, is_open_brace, is_close_brace, is_semicolon, is_colon, is_comma, is_line, is_end, shows}
+use Rattle.liberty_reader.specs.Looks.{look_of, text, is_word, is_arg, is_value, is_open_brace, is_close_brace, is_semicolon, is_comma}
 use Rattle.liberty_reader.specs.Words.{is_library, is_include}
-use Rattle.liberty_reader.specs.Actions.{Outcome, is_outer, keep, begin_statement, add_arg, add_value, settle, settled, left_group, enter, nested, entered, open_library, name_library, close}
-use Rattle.liberty_reader.specs.Grammar.{LibertyRule, act, take, arg, more, mores, args, values, value_end, value, group_or_none, call_end, tail, statement, body, braces, finish, ending, last_brace, library_braces, title_end, title_name, title, file}
-use Rattle.liberty_reader.specs.Steps.{Moved, moved, deepened, in_title, in_title_word, in_title_open, in_title_name, in_title_closed, in_closing, in_statement, in_word, in_value, in_open, in_arg, in_comma, unless_included, in_closed, in_library, in_semicolon, step, is_in_value, taken}
-use Rattle.liberty_reader.specs.ToCome.{after_body, rest, to_come, Answer, reads, stop, outcome, IsPlaced}
-use Rattle.liberty_reader.proofs.Simple.{more_simple, one_simple, Braces, statement_simple, braces_are}
+use Rattle.liberty_reader.specs.Actions.{Outcome, is_outer, keep, begin_statement, add_arg, add_value, settle, enter, nested, entered, open_library, name_library, close}
+use Rattle.liberty_reader.specs.Grammar.{LibertyRule, act, arg, more, mores, args, values, value_end, value, group_or_none, call_end, tail, statement, body, braces, finish, ending, last_brace, library_braces, title_end, title_name, title, file}
+use Rattle.liberty_reader.specs.Steps.{Moved, moved, deepened, in_title, in_title_word, in_title_open, in_title_name, in_title_closed, in_closing, in_statement, in_word, in_value, in_open, in_arg, in_comma, unless_included, in_closed, in_library, in_semicolon, step}
+use Rattle.liberty_reader.specs.ToCome.{after_body, rest, to_come, Answer, outcome, IsPlaced}
+use Rattle.liberty_reader.proofs.Simple.{more_simple, one_simple, statement_simple, braces_are}
 
 abbrev pub Read : Type 0
 Read = Result (Statements × List Token) (Stop Token Refusal)
@@ -163,10 +161,10 @@ module _ (source : List ℕ) (limits : Limits) where
   unfolding rest begin_statement
   statement_ok looks.Semicolon m t ts deep h =
       ap (λ r. to_end (r >>= then (after_body source limits m.depth m.room)))
-        (turn_body m.room m.statements t ts (begins_statement looks.Semicolon _ t h) ∙ ap (λ r. r >>= then (body source limits (braces source limits m.room))) (semicolon_read _ m.statements t ts h))
+      (turn_body m.room m.statements t ts (begins_statement looks.Semicolon _ t h) ∙ ap (λ r. r >>= then (body source limits (braces source limits m.room))) (semicolon_read _ m.statements t ts h))
   statement_ok looks.Word m t ts deep h =
       ap (λ r. to_end (r >>= then (after_body source limits m.depth m.room)))
-        (turn_body m.room m.statements t ts (begins_statement looks.Word _ t h) ∙ ap (λ r. r >>= then (body source limits (braces source limits m.room))) (word_read _ m.statements t ts h))
+      (turn_body m.room m.statements t ts (begins_statement looks.Word _ t h) ∙ ap (λ r. r >>= then (body source limits (braces source limits m.room))) (word_read _ m.statements t ts h))
       ∙ ap to_end (bind_assoc (read (tail source limits (braces source limits m.room) t) (record m.statements { word = t; args = [] }) ts) (then (body source limits (braces source limits m.room))) (then (after_body source limits m.depth m.room)))
   statement_ok looks.CloseBrace m t ts deep h = rest_ends m.room m.depth m.statements t ts (begins_statement looks.CloseBrace _ t h) ∙ closing_ok m.depth m t ts refl deep h
   statement_ok l m t ts deep h = rest_ends m.room m.depth m.statements t ts (begins_statement l _ t h) ∙ after_bad m.depth m.room m.statements t ts (rw h refl)
@@ -185,8 +183,8 @@ module _ (source : List ℕ) (limits : Limits) where
   unfolding value values
   add_ok m t ts h =
       ap (λ r. to_end ((r >>= then (value_end source)) >>= then (rest source limits m.depth m.room)))
-        (many_turn (act source is_value (add_value source limits) none) (λ u. false) (one_simple source limits _) refl m.statements (t ∷ ts) h
-        ∙ ap (λ r. r >>= then (values source limits)) (act_reads is_value (add_value source limits) none m.statements t ts h))
+      (many_turn (act source is_value (add_value source limits) none) (λ u. false) (one_simple source limits _) refl m.statements (t ∷ ts) h
+      ∙ ap (λ r. r >>= then (values source limits)) (act_reads is_value (add_value source limits) none m.statements t ts h))
       ∙ go (add_value source limits t m.statements)
     where
       go : (o : Outcome)

@@ -1,19 +1,18 @@
 -- Groups are entered, an argument further.
-use Rattle.std.proofs.Common.{◌≡◌, ℕ, zero, suc, ◌+◌, ◌<◌, ◌≤◌, Bool, true, false, List, [], ◌∷◌, length, drop, cond, leb, slice_index_or, Result, Ok, Err, refl, sym, ap, ◌∙◌, arith}
+use Rattle.std.proofs.Common.{◌≡◌, ℕ, zero, suc, ◌+◌, ◌<◌, ◌≤◌, Bool, true, false, List, [], ◌∷◌, length, drop, leb, slice_index_or, Ok, Err, refl, sym, ap, ◌∙◌, arith}
 use Rattle.std.proofs.lemmas.List.{drop_more}
 use Rattle.std.proofs.Math.ListN.{drop_of_length-le}
 use Rattle.text_scan.specs.declared.token.Token.{Token}
 use Rattle.text_scan.specs.declared.limits.Limits.{Limits}
 use Rattle.text_scan.specs.declared.limits.LimitKind.TheVariants as limit_kinds
 use Rattle.grammar.specs.Reading.{◌>>=◌}
-use Rattle.liberty_reader.specs.declared.halt.Refusal.{Refusal}
 use Rattle.liberty_reader.specs.declared.halt.Refusal.TheVariants as refusals
 use Rattle.liberty_reader.specs.declared.statements.Statements.{Statements}
 use Rattle.std.proofs.lemmas.Bool.{leb-true}
 use Rattle.liberty_reader.specs.Looks.{text}
 use Rattle.liberty_reader.specs.Words.{is_cell}
 use Rattle.liberty_reader.specs.Names.{content}
-use Rattle.liberty_reader.specs.Actions.{Outcome, nested, pass, enter_cell, enter_named_cell, enter_in_library, add_pin_name, add_pin_names, is_long_variable, has_long_variable, is_long_row, has_long_row}
+use Rattle.liberty_reader.specs.Actions.{nested, enter_cell, enter_named_cell, enter_in_library, add_pin_name, add_pin_names, is_long_variable, has_long_variable, is_long_row, has_long_row}
 
 pub nested_none : (n : ℕ) (s : Statements) → n ≡ 0 → nested n s ≡ Err (refusals.TooMany limit_kinds.Nesting)
 unfolding nested

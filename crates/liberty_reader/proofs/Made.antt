@@ -1,16 +1,13 @@
 -- Pins and cells are made, one further.
-use Rattle.std.proofs.Common.{◌≡◌, ℕ, ◌+◌, ◌<◌, ◌≤◌, List, [], ◌∷◌, ◌++◌, length, take, drop, slice_index_or, refl, sym, ap, ◌∙◌, append_assoc, arith}
+use Rattle.std.proofs.Common.{◌≡◌, ℕ, ◌+◌, ◌<◌, ◌≤◌, List, [], ◌∷◌, ◌++◌, length, drop, slice_index_or, refl, sym, ap, ◌∙◌, append_assoc, arith}
 use Rattle.std.specs.Prelude.{map}
 use Rattle.std.proofs.lemmas.List.{drop_more, append-nil}
 use Rattle.std.proofs.Math.ListN.{drop_of_length-le}
 use Rattle.text_scan.specs.declared.token.Token.{Token}
 use Rattle.liberty_source.specs.declared.LibertyPin.{LibertyPin}
 use Rattle.liberty_source.specs.declared.StateGroup.{StateGroup}
-use Rattle.liberty_source.specs.declared.CellPart.{CellPart}
 use Rattle.liberty_reader.specs.declared.statements.Group.{Group}
-use Rattle.liberty_reader.specs.declared.statements.CellText.{CellText}
-use Rattle.liberty_reader.specs.declared.cell.Slots.{Slots}
-use Rattle.liberty_reader.specs.Cells.{pins, pins_of, state, group_state, state_of_two, cell_part}
+use Rattle.liberty_reader.specs.Cells.{pins, pins_of, state, group_state, state_of_two}
 
 pub joined : (xs ys zs : List LibertyPin) → (xs ++ ys) ++ zs ≡ xs ++ (ys ++ zs)
 joined xs ys zs = append_assoc xs ys zs

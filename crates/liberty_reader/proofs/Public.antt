@@ -1,6 +1,5 @@
 -- What is read is the one answer that the grammar gives.
-use Rattle.std.proofs.Common.{◌≡◌, ℕ, false, List, Result, Ok, Err, refl, sym, ap, subst, ◌∙◌}
-use Rattle.text_scan.specs.declared.token.Token.{Token}
+use Rattle.std.proofs.Common.{◌≡◌, ℕ, false, List, Result, Ok, Err, sym, ap, subst, ◌∙◌}
 use Rattle.text_scan.specs.declared.limits.Limits.{Limits}
 use Rattle.text_scan.specs.declared.refusal.FileRefusal.{FileRefusal}
 use Rattle.text_scan.specs.declared.refusal.FileRefusal.TheVariants as refusals

@@ -1,18 +1,15 @@
 -- One token of look-ahead is enough.
-use Rattle.std.proofs.Common.{◌≡◌, ℕ, zero, suc, Bool, true, false, ◌⊎◌, inl, inr, ◌||◌, ◌&&◌, List, Result, Ok, Err, refl, sym, ap, subst, ◌∙◌}
+use Rattle.std.proofs.Common.{◌≡◌, ℕ, zero, suc, Bool, true, false, ◌||◌, ◌&&◌, List, refl, sym, ◌∙◌}
 use Rattle.text_scan.specs.declared.token.Token.{Token}
 use Rattle.text_scan.specs.declared.limits.Limits.{Limits}
-use Rattle.grammar.specs.Rule.{Rule, none, one, before, seq, alt, many}
+use Rattle.grammar.specs.Rule.{none}
 use Rattle.grammar.specs.Reading.{nullable, short, begins, IsSimple}
-use Rattle.liberty_reader.specs.declared.halt.Refusal.{Refusal}
 use Rattle.liberty_reader.specs.declared.look.Look.{Look}
-use Rattle.liberty_reader.specs.declared.look.Look.TheVariants.{Word, Str, OpenParen, CloseParen, OpenBrace, CloseBrace, Semicolon, Colon, Comma, OtherSign, LineEnd, End, Unfinished}
-use Rattle.liberty_reader.specs.declared.statements.Statements.{Statements}
-use Rattle.liberty_reader.specs.Looks.{look_of, text, is_word, is_arg, is_value, is_open_paren, is_close_paren, is_open_brace, is_close_brace, is_semicolon, is_colon, is_comma, is_line, is_end}
-use Rattle.liberty_reader.specs.Words.{is_library, is_include}
-use Rattle.liberty_reader.specs.Actions.{Outcome, keep, begin_statement, add_arg, add_value, settle, enter, open_library, name_library, close}
-use Rattle.liberty_reader.specs.Grammar.{LibertyRule, act, take, arg, more, mores, args, values, value_end, value, group_or_none, call_end, tail, statement, body, braces, finish, ending, last_brace, library_braces, title_end, title_name, title, file}
-
+use Rattle.liberty_reader.specs.declared.look.Look.TheVariants.{Word, Str, OpenParen, CloseParen, OpenBrace, Semicolon, Colon, Comma, OtherSign, LineEnd}
+use Rattle.liberty_reader.specs.Looks.{look_of, text, is_word, is_arg, is_value, is_open_paren, is_open_brace, is_close_brace, is_semicolon, is_colon, is_comma, is_line, is_end}
+use Rattle.liberty_reader.specs.Words.{is_include}
+use Rattle.liberty_reader.specs.Actions.{add_value}
+use Rattle.liberty_reader.specs.Grammar.{LibertyRule, act, arg, more, mores, args, values, value_end, value, group_or_none, call_end, tail, statement, body, braces, finish, ending, last_brace, library_braces, title_end, title_name, title, file}
 
 arg_no_comma : (l : Look) → is_arg l ≡ true → (is_comma l || false) ≡ false
 arg_no_comma Word e = refl
@@ -68,6 +65,7 @@ module _ (source : List ℕ) (limits : Limits) where
       first Word e = word
       first Str e = str
       first _ e = absurd cc
+
       further : (l : Look) → (is_arg l || is_comma l) ≡ true → Not l next
       further Word e = word
       further Str e = str

@@ -1,21 +1,16 @@
 -- Each token that is taken leads to what the grammar says of the tokens that are visible.
-use Rattle.std.proofs.Common.{◌≡◌, ℕ, zero, suc, ◌+◌, ◌-◌, ◌≤◌, leb, Bool, true, false, ◌&&◌, List, [], ◌∷◌, Result, Ok, Err, refl, sym, ap, subst, ◌∙◌, arith}
-use Rattle.std.proofs.lemmas.Bool.{leb-true}
+use Rattle.std.proofs.Common.{◌≡◌, ℕ, zero, suc, ◌≤◌, leb, Bool, true, false, ◌&&◌, List, ◌∷◌, Ok, Err, refl, ap, subst, ◌∙◌, arith}
 use Rattle.text_scan.specs.declared.token.Token.{Token}
 use Rattle.text_scan.specs.declared.limits.Limits.{Limits}
-use Rattle.liberty_reader.specs.declared.halt.Refusal.{Refusal}
-use Rattle.liberty_reader.specs.declared.halt.Halt.{Halt}
-use Rattle.liberty_reader.specs.declared.halt.Halt.TheVariants as halts
 use Rattle.liberty_reader.specs.declared.look.Look.{Look}
 use Rattle.liberty_reader.specs.declared.look.Look.TheVariants as looks
 use Rattle.liberty_reader.specs.declared.machine.Phase.{Phase}
 use Rattle.liberty_reader.specs.declared.machine.Phase.TheVariants as phases
 use Rattle.liberty_reader.specs.declared.machine.Machine.{Machine}
-use Rattle.liberty_reader.specs.declared.statements.Statements.{Statements}
 use Rattle.liberty_reader.specs.Looks.{look_of, text, is_word, shows, goes_on, before_them, visible}
 use Rattle.liberty_reader.specs.Words.{is_library, is_include}
-use Rattle.liberty_reader.specs.Actions.{Outcome, begin_statement, add_arg, add_value, settle, settled, left_group, enter, open_library, name_library}
-use Rattle.liberty_reader.specs.Steps.{Moved, moved, deepened, in_title, in_title_word, in_title_open, in_title_name, in_title_closed, in_closing, in_statement, in_word, in_value, in_open, in_arg, in_comma, unless_included, in_closed, in_library, in_semicolon, in_titles, in_args, step, is_in_value, step_if, taken}
+use Rattle.liberty_reader.specs.Actions.{Outcome, begin_statement, add_arg, add_value, settle, enter, open_library, name_library}
+use Rattle.liberty_reader.specs.Steps.{Moved, moved, deepened, in_title, in_title_word, in_title_open, in_title_name, in_title_closed, in_closing, in_statement, in_word, in_value, in_open, in_arg, in_comma, unless_included, in_closed, in_library, in_semicolon, step, is_in_value, step_if, taken}
 use Rattle.liberty_reader.specs.ToCome.{Answer, reads, stop, outcome, IsPlaced}
 use Rattle.liberty_reader.proofs.Follows.{step_ok}
 
@@ -168,6 +163,7 @@ take_ok source limits m t ts d = go (shows (is_in_value m.phase) (look_of source
         → outcome source limits o t (visible source (goes_on (is_in_value m.phase) (look_of source t)) ts) ≡ leads_to source limits m o t ts
     ok (Ok n) f = ap (λ v. reads source limits n (visible source v ts)) f.1
     ok (Err e) f = refl
+
     go : (g : Bool) → shows (is_in_value m.phase) (look_of source t) ≡ g
         → reads source limits m (before_them (shows (is_in_value m.phase) (look_of source t)) t (visible source (goes_on (is_in_value m.phase) (look_of source t)) ts))
         ≡ leads_to source limits m (step_if (shows (is_in_value m.phase) (look_of source t)) (step source limits t (look_of source t) m.phase m) m) t ts
@@ -181,6 +177,7 @@ take_placed source limits m n t d e = go (shows (is_in_value m.phase) (look_of s
     fine : (o : Moved) → Fine (is_in_value m.phase) (look_of source t) o → o ≡ Ok n → IsPlaced n.phase n.depth
     fine (Ok k) f g = let same : k ≡ n = cc in subst (λ z. IsPlaced z.phase z.depth) same f.0
     fine (Err r) f g = absurd cc
+
     go : (g : Bool) → step_if g (step source limits t (look_of source t) m.phase m) m ≡ Ok n → IsPlaced n.phase n.depth
     go true h = fine (step source limits t (look_of source t) m.phase m) (step_fine source limits t (look_of source t) m.phase m d) h
     go false h = let same : m ≡ n = cc in subst (λ z. IsPlaced z.phase z.depth) same d

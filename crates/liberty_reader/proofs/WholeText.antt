@@ -1,5 +1,5 @@
 -- What the reader tells is what the grammar says of the whole text.
-use Rattle.std.proofs.Common.{◌≡◌, ℕ, zero, suc, ◌+◌, ◌<◌, ◌^◌, Bool, true, false, List, [], ◌∷◌, length, Result, Ok, Err, refl, sym, ap, subst, ◌∙◌, arith}
+use Rattle.std.proofs.Common.{◌≡◌, ℕ, ◌+◌, ◌<◌, ◌^◌, Bool, true, false, List, [], ◌∷◌, length, Result, Ok, Err, refl, sym, ap, subst, ◌∙◌, arith}
 use Rattle.text_scan.specs.declared.token.Token.{Token}
 use Rattle.text_scan.specs.declared.token.Kind.{Kind}
 use Rattle.text_scan.specs.declared.token.Kind.TheVariants as kinds
@@ -9,9 +9,7 @@ use Rattle.text_scan.specs.declared.refusal.FileRefusal.{FileRefusal}
 use Rattle.text_scan.specs.declared.refusal.FileRefusal.TheVariants as refusals
 use Rattle.text_scan.specs.Tokens.{tokens_of}
 use Rattle.text_scan.specs.Left.{is_end, followed}
-use Rattle.grammar.specs.Reading.{syntax, refusal}
 use Rattle.grammar.specs.Answers.{read_all}
-use Rattle.liberty_reader.specs.declared.halt.Refusal.{Refusal}
 use Rattle.liberty_reader.specs.declared.halt.Halt.{Halt}
 use Rattle.liberty_reader.specs.declared.halt.Halt.TheVariants as halts
 use Rattle.liberty_reader.specs.declared.look.Look.TheVariants as looks
@@ -19,12 +17,12 @@ use Rattle.liberty_reader.specs.declared.machine.Phase.{Phase}
 use Rattle.liberty_reader.specs.declared.machine.Phase.TheVariants as phases
 use Rattle.liberty_reader.specs.declared.machine.Machine.{Machine}
 use Rattle.liberty_reader.specs.declared.statements.Statements.{Statements}
-use Rattle.liberty_reader.specs.Looks.{look_of, text, shows, visible}
+use Rattle.liberty_reader.specs.Looks.{look_of, text, shows}
 use Rattle.liberty_reader.specs.Words.{is_include}
-use Rattle.liberty_reader.specs.Steps.{Moved, step, step_if, taken, stopped, unless_included, is_in_value}
+use Rattle.liberty_reader.specs.Steps.{step, taken, stopped, unless_included, is_in_value}
 use Rattle.liberty_reader.specs.Bounds.{IsBounded}
 use Rattle.liberty_reader.specs.Does.{Leads, beginning, nothing}
-use Rattle.liberty_reader.specs.ToCome.{Answer, reads, stop, IsPlaced}
+use Rattle.liberty_reader.specs.ToCome.{Answer, IsPlaced}
 use Rattle.liberty_reader.specs.Answer.{library_file, file_tokens, at_token, refused, told, Agrees, Tells, halted}
 use Rattle.liberty_reader.proofs.Takes.{reads_left, leads_to, take_ok, take_placed}
 

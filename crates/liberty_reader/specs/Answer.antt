@@ -8,8 +8,7 @@ use Rattle.text_scan.specs.declared.limits.LimitKind.TheVariants as limit_kinds
 use Rattle.text_scan.specs.declared.refusal.FileRefusal.{FileRefusal}
 use Rattle.text_scan.specs.declared.refusal.FileRefusal.TheVariants as refusals
 use Rattle.text_scan.specs.Tokens.{tokens_of}
-use Rattle.grammar.specs.Reading.{Stop, syntax, refusal}
-use Rattle.grammar.specs.Answers.{read_all}
+use Rattle.grammar.specs.Reading.{syntax, refusal}
 use Rattle.liberty_reader.specs.declared.halt.Refusal.{Refusal}
 use Rattle.liberty_reader.specs.declared.halt.Refusal.TheVariants as reasons
 use Rattle.liberty_reader.specs.declared.halt.Halt.{Halt}
@@ -18,7 +17,6 @@ use Rattle.liberty_reader.specs.declared.statements.Statements.{Statements}
 use Rattle.liberty_reader.specs.Looks.{visible}
 use Rattle.liberty_reader.specs.Names.{content}
 use Rattle.liberty_reader.specs.Grammar.{LibertyRule, file}
-use Rattle.liberty_reader.specs.Does.{nothing}
 use Rattle.liberty_reader.specs.ToCome.{Answer}
 
 -- the grammar of files within these limits

@@ -1,5 +1,5 @@
 -- Counts of open groups stay small.
-use Rattle.std.specs.Prelude.{ℕ, ◌≤◌, ◌<◌, ◌+◌, ◌^◌}
+use Rattle.std.specs.Prelude.{◌≤◌, ◌<◌, ◌+◌, ◌^◌}
 use Rattle.liberty_reader.specs.declared.machine.Machine.{Machine}
 
 -- the groups that are passed over are among the open ones, and with those that may still be nested they are few

@@ -1,5 +1,5 @@
 -- What a cell makes of its statements: its pins, supplies and state, or the first thing in it that isn't read.
-use Rattle.std.specs.Prelude.{ℕ, ◌+◌, Bool, true, false, ◌==◌, ◌&&◌, ◌||◌, nat_lt, nat_le, if◌then◌else◌, List, [], ◌∷◌, ◌++◌, length, map, codes, slice_index_or, Option, Some, None, is_some}
+use Rattle.std.specs.Prelude.{ℕ, Bool, true, false, ◌==◌, ◌&&◌, ◌||◌, nat_lt, nat_le, if◌then◌else◌, List, [], ◌∷◌, ◌++◌, length, map, codes, Option, Some, None}
 use Rattle.std.specs.Str.{bytes_eq}
 use Rattle.std.specs.List.{list_all}
 use Rattle.text_scan.specs.declared.token.Token.{Token}
@@ -37,8 +37,23 @@ use Rattle.liberty_reader.specs.Actions.{value_text}
 
 abbrev pub no_slots : Slots
 no_slots = record {
-  direction = None; function = None; state_function = None; internal_node = None; input_map = None; three_state = None; pg_type = None;
-  next_state = None; clocked_on = None; clocked_on_also = None; enable = None; data_in = None; clear = None; preset = None; first_both = None; second_both = None; table = None;
+  direction = None;
+  function = None;
+  state_function = None;
+  internal_node = None;
+  input_map = None;
+  three_state = None;
+  pg_type = None;
+  next_state = None;
+  clocked_on = None;
+  clocked_on_also = None;
+  enable = None;
+  data_in = None;
+  clear = None;
+  preset = None;
+  first_both = None;
+  second_both = None;
+  table = None;
 }
 
 abbrev pub put : AttributeKind → Attribute → Slots → Slots

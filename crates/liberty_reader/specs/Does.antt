@@ -1,5 +1,5 @@
 -- What the parts of the reader answer, unless memory runs out.
-use Rattle.std.specs.Prelude.{◌≡◌, ℕ, List, [], Option, None, Result, Ok, Err}
+use Rattle.std.specs.Prelude.{◌≡◌, ℕ, [], None, Result, Ok, Err}
 use Rattle.text_scan.specs.declared.token.Token.{Token}
 use Rattle.text_scan.specs.declared.token.Kind.TheVariants as kinds
 use Rattle.liberty_reader.specs.declared.halt.Refusal.{Refusal}

@@ -9,7 +9,6 @@ use Rattle.liberty_reader.specs.declared.look.Look.TheVariants as looks
 use Rattle.liberty_reader.specs.declared.machine.Phase.{Phase}
 use Rattle.liberty_reader.specs.declared.machine.Phase.TheVariants as phases
 use Rattle.liberty_reader.specs.declared.machine.Machine.{Machine}
-use Rattle.liberty_reader.specs.declared.statements.Statements.{Statements}
 use Rattle.liberty_reader.specs.Looks.{look_of, text, is_word, shows}
 use Rattle.liberty_reader.specs.Words.{is_library, is_include}
 use Rattle.liberty_reader.specs.Actions.{Outcome, begin_statement, add_arg, add_value, settle, settled, left_group, enter, open_library, name_library}

@@ -1,8 +1,8 @@
 -- What is still to come in each state of a reader, as a rule.
-use Rattle.std.specs.Prelude.{◌≡◌, ◌≤◌, ◌<◌, ◌+◌, ◌^◌, ◌&&◌, Bool, ℕ, zero, suc, List, Result, Ok, Err, ◌∷◌}
+use Rattle.std.specs.Prelude.{◌≡◌, ◌≤◌, ℕ, zero, suc, List, Result, Ok, Err, ◌∷◌}
 use Rattle.text_scan.specs.declared.token.Token.{Token}
 use Rattle.text_scan.specs.declared.limits.Limits.{Limits}
-use Rattle.grammar.specs.Rule.{Rule, none, seq}
+use Rattle.grammar.specs.Rule.{none, seq}
 use Rattle.grammar.specs.Reading.{Stop, syntax, refusal}
 use Rattle.grammar.specs.Answers.{read_all}
 use Rattle.liberty_reader.specs.declared.halt.Refusal.{Refusal}

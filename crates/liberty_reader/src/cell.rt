@@ -4,8 +4,8 @@ ghost use Rattle.std.specs.List.{list_all};
 ghost use Rattle.liberty_reader.specs.Names as names;
 ghost use Rattle.liberty_reader.specs.Cells as spec;
 
-use crate::kinds::{AttributeKind, GroupKind};
 use crate::actions::value_text;
+use crate::kinds::{AttributeKind, GroupKind};
 use crate::names::{columns, content, is_name};
 use crate::statements::{Attribute, Group};
 use std::alloc::Global;
@@ -175,11 +175,7 @@ fn is_ground(value: &[u8]) -> bool
 }
 
 #[tactic(auto, using(crate::proofs::CellLists::good_arg, crate::proofs::CellLists::bad_arg_here, crate::proofs::CellLists::no_bad_arg))]
-fn bad_arg(
-    alloc: Global,
-    source: &[u8],
-    args: &[Token],
-) -> Result<Option<Construct>, NoMemory>
+fn bad_arg(alloc: Global, source: &[u8], args: &[Token]) -> Result<Option<Construct>, NoMemory>
     ensures { IfOk result (λ c. c ≡ spec.bad_arg source.now args.now) }
 {
     for at in 0..args.len() {
@@ -283,11 +279,7 @@ fn refuses_both(
 }
 
 #[tactic(auto, using(crate::proofs::CellLists::good_column, crate::proofs::CellLists::bad_column_here, crate::proofs::CellLists::no_bad_column))]
-fn bad_column(
-    alloc: Global,
-    source: &[u8],
-    args: &[Token],
-) -> Result<Option<Construct>, NoMemory>
+fn bad_column(alloc: Global, source: &[u8], args: &[Token]) -> Result<Option<Construct>, NoMemory>
     ensures { IfOk result (λ c. c ≡ spec.bad_column source.now args.now) }
 {
     for at in 0..args.len() {
@@ -347,11 +339,7 @@ fn are_strings(args: &[Token]) -> bool
     is_string(args[0].kind) && is_string(args[1].kind)
 }
 
-fn refuses_state(
-    alloc: Global,
-    source: &[u8],
-    slots: &Slots,
-) -> Result<Option<Construct>, NoMemory>
+fn refuses_state(alloc: Global, source: &[u8], slots: &Slots) -> Result<Option<Construct>, NoMemory>
     ensures { IfOk result (λ c. c ≡ spec.refuses_state source.now slots.now) }
 {
     let first = refuses_both(alloc, source, slots.first_both)?;
@@ -370,7 +358,10 @@ fn refuses_pin(
     let arg = bad_arg(alloc, source, group.args.as_slice())?;
     let direction = refuses_direction(alloc, source, group.word, slots.direction)?;
     let node = refuses_node(alloc, source, slots.internal_node)?;
-    let words = earlier(refuses_word(slots.input_map), refuses_word(slots.three_state));
+    let words = earlier(
+        refuses_word(slots.input_map),
+        refuses_word(slots.three_state),
+    );
     Ok(earlier(arg, earlier(direction, earlier(node, words))))
 }
 

@@ -295,12 +295,7 @@ impl Statements {
     }
 
     #[tactic(auto, unfolding(crate::specs::Actions::entered))]
-    fn enter_inner(
-        &mut self,
-        alloc: Global,
-        source: &[u8],
-        limits: &Limits,
-    ) -> Result<(), Halt>
+    fn enter_inner(&mut self, alloc: Global, source: &[u8], limits: &Limits) -> Result<(), Halt>
         requires { self.old.passed + 1 < 2 ^ 32 }
         ensures does { Does result self.new (spec.entered source.now limits.now self.old) }
         ensures passed { self.new.passed ≤ self.old.passed + 1 }

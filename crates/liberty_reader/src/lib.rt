@@ -24,3 +24,6 @@ pub use liberty_source::{
     Both, CellPart, FfText, LatchText, LibertyCell, LibertyPin, Library, RowsText, StateGroup,
 };
 pub use public_call::read_library;
+
+#[cfg(test)]
+mod tests;

@@ -119,12 +119,7 @@ fn pin_direction(
 }
 
 #[tactic(auto, unfolding(crate::specs::Cells::pin))]
-fn pin(
-    alloc: Global,
-    source: &[u8],
-    slots: &Slots,
-    token: Token,
-) -> Result<LibertyPin, NoMemory>
+fn pin(alloc: Global, source: &[u8], slots: &Slots, token: Token) -> Result<LibertyPin, NoMemory>
     ensures { IfOk result (λ made. made ≡ spec.pin source.now slots.now token) }
 {
     let name = content(alloc, source, token)?;
@@ -143,12 +138,7 @@ fn pin(
 }
 
 #[tactic(auto, unfolding(crate::specs::Cells::supply))]
-fn supply(
-    alloc: Global,
-    source: &[u8],
-    slots: &Slots,
-    token: Token,
-) -> Result<LibertyPin, NoMemory>
+fn supply(alloc: Global, source: &[u8], slots: &Slots, token: Token) -> Result<LibertyPin, NoMemory>
     ensures { IfOk result (λ made. made ≡ spec.supply source.now slots.now token) }
 {
     let name = content(alloc, source, token)?;
@@ -177,11 +167,7 @@ fn both_of(value: &[u8]) -> Both
     }
 }
 
-fn both(
-    alloc: Global,
-    source: &[u8],
-    attribute: Option<Attribute>,
-) -> Result<Both, NoMemory>
+fn both(alloc: Global, source: &[u8], attribute: Option<Attribute>) -> Result<Both, NoMemory>
     ensures { IfOk result (λ value. value ≡ spec.both source.now attribute) }
 {
     match attribute {
@@ -254,11 +240,7 @@ fn add_pins_of(
 }
 
 #[tactic(auto, using(crate::proofs::Made::next_pins, crate::proofs::Made::no_more_pins, crate::proofs::Made::joined))]
-fn pins(
-    alloc: Global,
-    source: &[u8],
-    groups: &[Group],
-) -> Result<Items<LibertyPin>, NoMemory>
+fn pins(alloc: Global, source: &[u8], groups: &[Group]) -> Result<Items<LibertyPin>, NoMemory>
     ensures { IfOk result (λ made. made ≡ spec.pins source.now groups.now) }
 {
     let mut pins = Items::new(alloc);
@@ -343,11 +325,7 @@ fn latch(
     })
 }
 
-fn table_text(
-    alloc: Global,
-    source: &[u8],
-    attribute: Option<Attribute>,
-) -> Result<Text, NoMemory>
+fn table_text(alloc: Global, source: &[u8], attribute: Option<Attribute>) -> Result<Text, NoMemory>
     ensures { IfOk result (λ t. t ≡ spec.table_text source.now attribute) }
 {
     match attribute {
@@ -430,11 +408,7 @@ fn group_state(
 }
 
 #[tactic(auto, using(crate::proofs::Made::next_state, crate::proofs::Made::no_more_states))]
-fn state(
-    alloc: Global,
-    source: &[u8],
-    groups: &[Group],
-) -> Result<StateGroup, NoMemory>
+fn state(alloc: Global, source: &[u8], groups: &[Group]) -> Result<StateGroup, NoMemory>
     ensures { IfOk result (λ made. made ≡ spec.state source.now groups.now states.Stateless) }
 {
     let mut state = StateGroup::Stateless;
@@ -489,11 +463,7 @@ fn cell_part(alloc: Global, source: &[u8], cell: &CellText) -> Result<CellPart, 
 }
 
 #[tactic(auto, using(crate::proofs::Made::more_made, crate::proofs::Made::all_made))]
-fn cell_parts(
-    alloc: Global,
-    source: &[u8],
-    cells: &[CellText],
-) -> Result<Items<CellPart>, NoMemory>
+fn cell_parts(alloc: Global, source: &[u8], cells: &[CellText]) -> Result<Items<CellPart>, NoMemory>
     ensures { IfOk result (λ made. made ≡ map (spec.cell_part source.now) cells.now) }
 {
     let mut parts = Items::new(alloc);
@@ -503,11 +473,7 @@ fn cell_parts(
     Ok(parts)
 }
 
-fn library_name(
-    alloc: Global,
-    source: &[u8],
-    name: Option<Token>,
-) -> Result<Text, NoMemory>
+fn library_name(alloc: Global, source: &[u8], name: Option<Token>) -> Result<Text, NoMemory>
     ensures { IfOk result (λ t. t ≡ spec.library_name source.now name) }
 {
     match name {
@@ -518,11 +484,7 @@ fn library_name(
 
 /// What the statements of a library say.
 #[tactic(auto, unfolding(crate::specs::Cells::library))]
-pub fn library(
-    alloc: Global,
-    source: &[u8],
-    statements: &Statements,
-) -> Result<Library, NoMemory>
+pub fn library(alloc: Global, source: &[u8], statements: &Statements) -> Result<Library, NoMemory>
     ensures { IfOk result (λ made. made ≡ spec.library source.now statements.now) }
 {
     let name = library_name(alloc, source, statements.name)?;

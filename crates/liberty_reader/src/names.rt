@@ -42,7 +42,11 @@ fn inside(source: &[u8], token: Token) -> &[u8]
     if source.len() <= token.span.start {
         return &[];
     }
-    slice(source, token.span.start + 1, token.span.end.saturating_sub(1))
+    slice(
+        source,
+        token.span.start + 1,
+        token.span.end.saturating_sub(1),
+    )
 }
 
 #[tactic(auto, unfolding(crate::specs::Names::shown_byte))]

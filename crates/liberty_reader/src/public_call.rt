@@ -17,17 +17,18 @@ use text_scan::{FileRefusal, Limits};
 ///
 /// The answer is the one that the grammar gives the text: the library where the text is one, else the first thing
 /// for which it is refused. Only want of memory is not told by the definition.
-pub fn read_library(
-    alloc: Global,
-    text: &[u8],
-    limits: &Limits,
-) -> Result<Library, FileRefusal>
+pub fn read_library(alloc: Global, text: &[u8], limits: &Limits) -> Result<Library, FileRefusal>
     requires { IsWithin limits.now }
     // There is an answer to the text, and this is it.
     ensures answered { IsAnswered text.now limits.now result }
     // No other answer is there: whatever the grammar gives the text is told.
     ensures only { (o : Answer) → IsAnswer (library_file text.now limits.now) nothing (file_tokens text.now) o → Agrees result (told text.now limits.now (library_of text.now) o) }
 {
-    let statements = read_statements(alloc, text, limits)?;
-    Ok(library(alloc, text, &statements)?)
+    match read_statements(alloc, text, limits) {
+        Err(refusal) => Err(refusal),
+        Ok(statements) => match library(alloc, text, &statements) {
+            Err(_) => Err(FileRefusal::NoMemory),
+            Ok(made) => Ok(made),
+        },
+    }
 }

@@ -45,13 +45,7 @@ fn double_name(alloc: Global, source: &[u8], token: Token) -> FileRefusal
 }
 
 // What is told where the reader halts at this token.
-fn halted(
-    alloc: Global,
-    source: &[u8],
-    limits: &Limits,
-    halt: Halt,
-    token: Token,
-) -> FileRefusal
+fn halted(alloc: Global, source: &[u8], limits: &Limits, halt: Halt, token: Token) -> FileRefusal
     ensures { spec.Tells result (spec.halted source.now limits.now halt token) }
 {
     match halt {

@@ -1,4 +1,4 @@
-use Rattle.std.proofs.Common.{◌≡◌, drop, false}
+use Rattle.std.proofs.Common.{◌≡◌, drop}
 use Rattle.liberty_reader.specs.Cells.{bad_column}
 use Rattle.liberty_reader.proofs.cell.bad_column.Given as goal
 

@@ -1,5 +1,4 @@
 use Rattle.std.proofs.Common.{◌≡◌, ◌++◌, drop}
-use Rattle.std.specs.Prelude.{map}
 use Rattle.liberty_reader.specs.Cells.{pins}
 use Rattle.liberty_reader.proofs.making.pins.Given as goal
 

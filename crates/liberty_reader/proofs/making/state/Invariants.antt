@@ -1,5 +1,4 @@
-use Rattle.std.proofs.Common.{◌≡◌, ◌++◌, drop}
-use Rattle.std.specs.Prelude.{map}
+use Rattle.std.proofs.Common.{◌≡◌, drop}
 use Rattle.liberty_source.specs.declared.StateGroup.TheVariants as states
 use Rattle.liberty_reader.specs.Cells.{state}
 use Rattle.liberty_reader.proofs.making.state.Given as goal

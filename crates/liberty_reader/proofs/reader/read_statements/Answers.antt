@@ -11,7 +11,7 @@ tokens-init c =
 pub tokens-preserved : goal.tokens-preserved
 tokens-preserved c =
     goes_on c.args.source.now c.args.limits.now c.tokens.machine c.take.new.self c.tokens.token (left c.tokens.cursor) _ (sym c.tokens-test.ensures) c.tokens.invariant c.in_default.ensures.bounded c.in_default.ensures.leads
-      c.next_token-token-in-tokens.ensures.next
+    c.next_token-token-in-tokens.ensures.next
 
 pub tokens-smaller : goal.tokens-smaller
 tokens-smaller c = smaller c.args.source.now c.args.limits.now c.tokens.token (left c.tokens.cursor) _ (sym c.tokens-test.ensures) c.next_token-token-in-tokens.ensures.next
