@@ -1,0 +1,14 @@
+pub mod Words
+pub mod Function
+pub mod Compiling
+pub mod Texts
+pub mod Pairs
+pub mod Names
+pub mod Meaning
+pub mod PairMeaning
+pub mod Symbols
+pub mod TableText
+pub mod Table
+pub mod TableMeaning
+pub mod Behaviour
+pub mod Cell
