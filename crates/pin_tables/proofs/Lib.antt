@@ -1,0 +1,4 @@
+mod Names
+mod Indexes
+mod Lists
+mod Tables

@@ -1,0 +1,81 @@
+-- The pin tables of Liberty and Verilog.
+use Rattle.std.specs.Prelude.{ℕ, Bool, true, false, not, ◌&&◌, if◌then◌else◌, cond, is_some, List, [], ◌∷◌, ◌++◌, map, filter, Option, Some, None}
+use Rattle.std.specs.List.{flat_map, list_any}
+use Rattle.text_scan.specs.declared.pins.Direction.{Direction}
+use Rattle.text_scan.specs.declared.pins.Direction.TheVariants.{Input, Output, Inout, Feedthru, Internal, Absent}
+use Rattle.text_scan.specs.declared.pins.PinKind.{PinKind}
+use Rattle.text_scan.specs.declared.pins.PinKind.TheVariants.{Signal}
+use Rattle.liberty_source.specs.declared.LibertyCell.{LibertyCell}
+use Rattle.liberty_source.specs.declared.LibertyPin.{LibertyPin}
+use Rattle.verilog_source.specs.declared.module.Module.{Module}
+use Rattle.verilog_source.specs.declared.module.Port.{Port}
+use Rattle.pin_tables.specs.declared.table.Pin.{Pin}
+use Rattle.pin_tables.specs.declared.table.Role.{Role}
+use Rattle.pin_tables.specs.declared.table.PinTable.{PinTable}
+use Rattle.pin_tables.specs.declared.index.PinIndex.{PinIndex}
+use Rattle.pin_tables.specs.Tables.{said_of}
+use Rattle.pin_tables.specs.Rules.{is_supply}
+use Rattle.pin_tables.specs.Index.{found}
+
+abbrev pub pin : List ℕ → Direction → PinKind → Pin
+pin name direction kind = record { name = name; direction = direction; kind = kind }
+
+-- Liberty
+
+abbrev pub as_pin : LibertyPin → Pin
+as_pin p = pin p.name p.direction p.kind
+
+abbrev pub is_supply_pin : LibertyPin → Bool
+is_supply_pin p = is_supply p.kind
+
+abbrev pub is_internal : Direction → Bool
+is_internal Internal = true
+is_internal d = false
+
+-- none for an internal pin
+abbrev pub cell_pin : LibertyPin → List Pin
+cell_pin p = if is_internal p.direction then [] else as_pin p ∷ []
+
+abbrev pub cell_pins : List LibertyPin → List Pin
+cell_pins pins = flat_map cell_pin pins
+
+abbrev pub supply_pin : List ℕ × PinKind → Pin
+supply_pin s = pin s.0 Absent s.1
+
+-- none where a pin of the cell has the name
+abbrev pub supply_beside : List LibertyPin → List ℕ × PinKind → List Pin
+supply_beside pins s = if is_some (said_of (map as_pin pins) s.0) then [] else supply_pin s ∷ []
+
+-- the technology's supplies, where the cell has none of its own
+abbrev pub lent_supplies : List LibertyPin → List (List ℕ × PinKind) → List Pin
+lent_supplies pins supplies = if list_any is_supply_pin pins then [] else flat_map (supply_beside pins) supplies
+
+abbrev pub liberty_table : LibertyCell → List (List ℕ × PinKind) → PinTable
+liberty_table cell supplies = record { cell = cell.name; pins = cell_pins cell.pins ++ lent_supplies cell.pins supplies }
+
+-- Verilog
+
+abbrev pub kind_or_signal : Option Role → PinKind
+kind_or_signal None = Signal
+kind_or_signal (Some role) = role.kind
+
+-- a port, of the kind that Liberty's table gives its name
+abbrev pub port_pin : List Pin → Port → Pin
+port_pin liberty p = pin p.name p.direction (kind_or_signal (said_of liberty p.name))
+
+abbrev pub module_table : Module → PinTable → PinTable
+module_table m liberty = record { cell = m.name; pins = map (port_pin liberty.pins) m.ports }
+
+-- As they are made from indexes
+
+abbrev pub indexed_supply : PinIndex → List ℕ × PinKind → List Pin
+indexed_supply names s = if is_some (found names s.0) then [] else supply_pin s ∷ []
+
+abbrev pub indexed_supplies : PinIndex → List (List ℕ × PinKind) → List Pin
+indexed_supplies names supplies = flat_map (indexed_supply names) supplies
+
+abbrev pub indexed_kind : PinIndex → List ℕ → PinKind
+indexed_kind known name = kind_or_signal (found known name)
+
+abbrev pub indexed_port : PinIndex → Port → Pin
+indexed_port known p = pin p.name p.direction (indexed_kind known p.name)
