@@ -60,7 +60,7 @@ after_more sources ts c d w a e =
     record {
       machine = s.0;
       ran = run_more ts (w ∷ []) a.machine (Some s.0) a.ran (ran_one a.machine s.0 w s.1);
-      stands = s.2
+      stands = s.2;
     }
 
 pub after_front : (sources : List ℕ → Source) (ts : List Word) (c : Standing) → IsAfter sources ts c → IsFront ts

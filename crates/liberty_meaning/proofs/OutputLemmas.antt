@@ -84,5 +84,5 @@ outputs_refused names nodes pins i p qs e h is o t r =
       programs = qs;
       good = o;
       output = t;
-      refused = x
+      refused = x;
     }) r

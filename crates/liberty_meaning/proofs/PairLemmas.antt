@@ -20,7 +20,7 @@ IsMade names text p = (f : Function) × IsFunctionOf names text f × Computes na
 
 uncontrolled_same : (kind : Kind) (names : List Named) (c v : Program) (f g : Function) → Computes names c.steps f → Computes names v.steps g → (old new state : List Tern)
     → uncontrolled kind (λ pins s. steps_value pins s c.steps) (λ pins s. steps_value pins s v.steps) old new state (pair_of state)
-      ≡ uncontrolled kind (λ pins s. value_of (name_value names pins s) f) (λ pins s. value_of (name_value names pins s) g) old new state (pair_of state)
+    ≡ uncontrolled kind (λ pins s. value_of (name_value names pins s) f) (λ pins s. value_of (name_value names pins s) g) old new state (pair_of state)
 uncontrolled_same Clocked names c v f g h k old new state = rw (h old state, h new state, k old state) refl
 uncontrolled_same Latched names c v f g h k old new state = rw (h new state, k new state) refl
 
@@ -34,7 +34,7 @@ pair_of_programs kind names control value clear preset both c v x p hc hv hx hp 
   is_clear = hx.1;
   is_preset = hp.1;
   next = λ old new state.
-      rw (hx.2 new state, hp.2 new state, uncontrolled_same kind names c v hc.0 hv.0 hc.2 hv.2 old new state) refl
+      rw (hx.2 new state, hp.2 new state, uncontrolled_same kind names c v hc.0 hv.0 hc.2 hv.2 old new state) refl;
 }
 
 pub good : (names : List Named) (text : Option (List ℕ)) (p : Program) → IsMade names text p → IsGood names text

@@ -90,7 +90,6 @@ symbols_end role second words i ss h g =
     let k : symbols_of role second (drop i words) ≡ Some [] = rw d refl in
     sym (g ∙ (rw k (ap (λ k. Some k) (append-nil ss))))
 
-
 pub first_here : (columns : List Source) (old new state : List Tern) (rows : List Row) (i : ℕ) (r : Row) → i < length rows → r ≡ get_or rows i r → matches_row columns old new state r ≡ true → first_matching columns old new state (drop i rows) ≡ Some r
 unfolding first_matching
 first_here columns old new state rows i r h is e = rw (next_item rows i r h is, e) refl

@@ -89,9 +89,10 @@ early_here sources words end c a e = (words, [], sym (append-nil words), after_f
 
 made_at : (s : Scope) (ts : List Word) (f : Function) (steps : List Step) → IsFunction ts f → steps ≡ program_of (sources_of s) f
     → (fits steps 0 ≡ true) × ((f : Function) × IsFunction ts f × ((pins : List Tern) (state : List Tern) → steps_value pins state steps ≡ value_of (name_value s.names pins state) f))
-made_at s ts f steps h e =
-    (rw e (fits_function (sources_of s) ts f h),
-    (f, h, λ pins state. rw e (ap last_value (program_leaves (sources_of s) (source_value pins state) (constant_value pins state) f))))
+made_at s ts f steps h e = (
+  rw e (fits_function (sources_of s) ts f h),
+  (f, h, λ pins state. rw e (ap last_value (program_leaves (sources_of s) (source_value pins state) (constant_value pins state) f))),
+)
 
 pub made_here : (s : Scope) (ts : List Word) (c : Standing) (steps : List Step) → IsAfter (sources_of s) ts c → finished c ≡ Some steps
     → (fits steps 0 ≡ true) × ((f : Function) × IsFunction ts f × ((pins : List Tern) (state : List Tern) → steps_value pins state steps ≡ value_of (name_value s.names pins state) f))

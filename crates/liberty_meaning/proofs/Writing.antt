@@ -16,5 +16,5 @@ written_more f old now k v h e w = record {
   done = below_more (λ j. value_at (set now k v) j ≡ f j) k
       (λ j l. let ne : j ≢ k = omega arith in get_or-set_other now k j v tern.Unknown ne ∙ w.done j l)
       (get_or-set_same now k v tern.Unknown h ∙ e);
-  left = λ j l. let ne : j ≢ k = omega arith in get_or-set_other now k j v tern.Unknown ne ∙ w.left j (omega arith)
+  left = λ j l. let ne : j ≢ k = omega arith in get_or-set_other now k j v tern.Unknown ne ∙ w.left j (omega arith);
 }

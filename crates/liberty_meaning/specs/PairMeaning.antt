@@ -45,7 +45,7 @@ pub record Functions : Type 0 where
 -- the pair after a change of the pins, with clear and preset on the new pins
 abbrev pub pair_after : Kind → List Both → List Named → Functions → List Tern → List Tern → List Tern → Pair
 pair_after kind both names fs old new state =
-  controlled_pair (value_of (name_value names new state) fs.clear) (value_of (name_value names new state) fs.preset) (both_at both 0) (both_at both 1) (pair_of state)
+    controlled_pair (value_of (name_value names new state) fs.clear) (value_of (name_value names new state) fs.preset) (both_at both 0) (both_at both 1) (pair_of state)
     (uncontrolled kind (λ pins s. value_of (name_value names pins s) fs.control) (λ pins s. value_of (name_value names pins s) fs.value) old new state (pair_of state))
 
 -- the functions are those of the texts, and the programs compute the pair

@@ -76,8 +76,8 @@ both_value says.Unknown old = Unknown
 -- the pair after clear, which gives 0 and 1, and preset, which gives 1 and 0
 abbrev pub controlled_pair : Tern → Tern → Both → Both → Pair → Pair → Pair
 controlled_pair clear preset both1 both2 old p = pair
-  (controlled clear preset (record { neither = p.first; cleared = Zero; preset = One; both = both_value both1 old.first }))
-  (controlled clear preset (record { neither = p.second; cleared = One; preset = Zero; both = both_value both2 old.second }))
+    (controlled clear preset (record { neither = p.first; cleared = Zero; preset = One; both = both_value both1 old.first }))
+    (controlled clear preset (record { neither = p.second; cleared = One; preset = Zero; both = both_value both2 old.second }))
 
 -- what stands for the first or second variable
 abbrev pub both_at : List Both → ℕ → Both

@@ -51,9 +51,9 @@ has_form n m words = is_colon_at words n && (is_colon_at (drop (n + 1) words) m 
 -- the row of the words, with the first or the second letter of each slash word
 abbrev pub row_of : Bool → ℕ → ℕ → List (List ℕ) → Option Row
 row_of second n m words =
-  if has_form n m words
-  then row_by (symbols_of Input second (take n words)) (symbols_of Node second (take m (drop (n + 1) words))) (symbols_of Next second (drop (m + 1) (drop (n + 1) words)))
-  else None
+    if has_form n m words
+    then row_by (symbols_of Input second (take n words)) (symbols_of Node second (take m (drop (n + 1) words))) (symbols_of Next second (drop (m + 1) (drop (n + 1) words)))
+    else None
 
 abbrev pub seconds : Option Row → Option (List Row)
 seconds None = None

@@ -20,9 +20,9 @@ last_row (w ∷ ws) = row_words (w ∷ ws) ∷ []
 unfoldable pub rows_from : List (List ℕ) → List ℕ → List ℕ → List RowWords
 rows_from row word [] = last_row (row ++ ended word)
 rows_from row word (b ∷ bs) =
-  if b == 44 then row_words (row ++ ended word) ∷ rows_from [] [] bs
-  else if is_blank b then rows_from (row ++ ended word) [] bs
-  else rows_from row (word ++ b ∷ []) bs
+    if b == 44 then row_words (row ++ ended word) ∷ rows_from [] [] bs
+    else if is_blank b then rows_from (row ++ ended word) [] bs
+    else rows_from row (word ++ b ∷ []) bs
 
 unfoldable pub rows_of : List ℕ → List RowWords
 rows_of text = rows_from [] [] text

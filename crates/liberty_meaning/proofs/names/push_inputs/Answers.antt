@@ -12,13 +12,13 @@ loop-pin-preserved c =
           let e : is_direction_input c.pin-item.result.direction ≡ true = cc in
           record {
             names = rw (w.names-is, w.k-is) (one_on _ c.loop-pin.names _ _ _ (rw (input_here c.loop-pin.k c.args.pins.now c.loop-pin.pin-index c.pin-item.result c.loop-pin-test.true c.pin-item.is e) at c.loop-pin.invariant.names) w.in_ok-push_named.ensures);
-            few = omega (arith, w.k-is, c.loop-pin.invariant.few)
+            few = omega (arith, w.k-is, c.loop-pin.invariant.few);
           }
       | else-is_input w ↦
           let e : is_direction_input c.pin-item.result.direction ≡ false = cc in
           record {
             names = rw (w.names-is, w.k-is) (rw (no_input_here c.loop-pin.k c.args.pins.now c.loop-pin.pin-index c.pin-item.result c.loop-pin-test.true c.pin-item.is e) at c.loop-pin.invariant.names);
-            few = omega (arith, w.k-is, c.loop-pin.invariant.few)
+            few = omega (arith, w.k-is, c.loop-pin.invariant.few);
           }
     ]
 
