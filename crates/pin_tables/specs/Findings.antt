@@ -1,5 +1,5 @@
 -- Where the pins of the views differ.
-use Rattle.std.specs.Prelude.{◌≡◌, ℕ, Bool, if◌then◌else◌, is_some, is_none, List, [], ◌∷◌, ◌++◌, map, filter, find, Option, Some, None}
+use Rattle.std.specs.Prelude.{◌≡◌, ℕ, if◌then◌else◌, is_some, is_none, List, [], ◌∷◌, ◌++◌, map, filter, Option, Some, None}
 use Rattle.std.specs.List.{flat_map, list_any}
 use Rattle.std.specs.List.Sorted.{IsStrictlySortedBy}
 use Rattle.std.specs.Cmp.Lexicographic.{slice_cmp}
@@ -13,7 +13,7 @@ use Rattle.verdict_text.specs.declared.finding.Finding.{Finding}
 use Rattle.pin_tables.specs.declared.table.Pin.{Pin}
 use Rattle.pin_tables.specs.declared.table.PinTable.{PinTable}
 use Rattle.pin_tables.specs.declared.table.FourViews.{FourViews}
-use Rattle.pin_tables.specs.Tables.{has_name, role_of, said_of}
+use Rattle.pin_tables.specs.Tables.{role_of, said_of}
 use Rattle.pin_tables.specs.Rules.{broken}
 
 -- a finding about pins, which no waiver covers yet

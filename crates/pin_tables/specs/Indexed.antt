@@ -1,5 +1,5 @@
 -- Findings as they are made from indexes.
-use Rattle.std.specs.Prelude.{◌≡◌, ℕ, Bool, cond, is_none, List, [], ◌∷◌, ◌++◌, map, filter, Option, Some, None}
+use Rattle.std.specs.Prelude.{◌≡◌, ℕ, cond, is_none, List, [], ◌∷◌, ◌++◌, map, filter, Option, Some, None}
 use Rattle.std.specs.List.{flat_map}
 use Rattle.std.specs.Option.{option_or}
 use Rattle.std.specs.BTreeMap.{keys}

@@ -1,8 +1,8 @@
 -- The pin tables of Liberty and Verilog.
-use Rattle.std.specs.Prelude.{ℕ, Bool, true, false, not, ◌&&◌, if◌then◌else◌, cond, is_some, List, [], ◌∷◌, ◌++◌, map, filter, Option, Some, None}
+use Rattle.std.specs.Prelude.{ℕ, Bool, true, false, if◌then◌else◌, is_some, List, [], ◌∷◌, ◌++◌, map, Option, Some, None}
 use Rattle.std.specs.List.{flat_map, list_any}
 use Rattle.text_scan.specs.declared.pins.Direction.{Direction}
-use Rattle.text_scan.specs.declared.pins.Direction.TheVariants.{Input, Output, Inout, Feedthru, Internal, Absent}
+use Rattle.text_scan.specs.declared.pins.Direction.TheVariants.{Internal, Absent}
 use Rattle.text_scan.specs.declared.pins.PinKind.{PinKind}
 use Rattle.text_scan.specs.declared.pins.PinKind.TheVariants.{Signal}
 use Rattle.liberty_source.specs.declared.LibertyCell.{LibertyCell}

@@ -5,7 +5,7 @@ use Rattle.text_scan.specs.declared.pins.Direction.TheVariants.{Input, Output, I
 use Rattle.text_scan.specs.declared.pins.PinKind.{PinKind}
 use Rattle.text_scan.specs.declared.pins.PinKind.TheVariants.{Signal, Power, Ground}
 use Rattle.verdict_text.specs.declared.finding.View.{View}
-use Rattle.verdict_text.specs.declared.finding.View.TheVariants.{Liberty, Verilog, Cdl, Lef}
+use Rattle.verdict_text.specs.declared.finding.View.TheVariants.{Verilog, Lef}
 use Rattle.verdict_text.specs.declared.finding.Code.{Code}
 use Rattle.verdict_text.specs.declared.finding.Code.TheVariants.{P2, P3, P4}
 use Rattle.pin_tables.specs.declared.table.Role.{Role}

@@ -1,5 +1,5 @@
 -- Tables of pins.
-use Rattle.std.specs.Prelude.{ℕ, Bool, List, find, Option, Some, None}
+use Rattle.std.specs.Prelude.{ℕ, Bool, List, find, Option}
 use Rattle.std.specs.Option.{option_map}
 use Rattle.std.specs.Str.{bytes_eq}
 use Rattle.pin_tables.specs.declared.table.Pin.{Pin}

@@ -4,6 +4,7 @@
 mod absent;
 mod findings;
 mod index;
+pub mod laws;
 mod makers;
 mod rule;
 mod table;

@@ -35,7 +35,7 @@ pub fn liberty_pins(
 
 /// Verilog's table: the module's ports, each of the kind that Liberty's table gives its name, else a signal.
 pub fn module_pins(alloc: Global, module: &Module, liberty: &PinTable) -> Result<PinTable, NoMemory>
-    ensures { IfOk result (λ table. table ≡ spec.module_table module.now liberty.now) }
+    ensures { IfOk result (λ table. table ≡ spec.module_table «module».now liberty.now) }
 {
     let known = PinIndex::of(alloc, liberty.pins.as_slice())?;
     let mut pins = Vec::new(alloc);

@@ -1,4 +1,4 @@
-use Rattle.std.proofs.Common.{◌≡◌, ◌++◌, ◌∷◌, [], ◌+◌, take, sym, subst, rules}
+use Rattle.std.proofs.Common.{◌≡◌, ◌++◌, [], take, sym, subst, rules}
 use Rattle.std.specs.List.{flat_map}
 use Rattle.pin_tables.specs.Findings.{first_pins}
 use Rattle.pin_tables.specs.Indexed.{IsIndexOf, at_pin}

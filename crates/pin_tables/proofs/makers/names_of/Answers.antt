@@ -1,4 +1,4 @@
-use Rattle.std.proofs.Common.{◌≡◌, ◌∷◌, [], map, take, sym, subst, rules}
+use Rattle.std.proofs.Common.{◌∷◌, [], map, take, sym, subst, rules}
 use Rattle.pin_tables.specs.Index.{IsIndexOf}
 use Rattle.pin_tables.specs.Makers.{as_pin}
 use Rattle.pin_tables.proofs.Indexes.{indexes_more, joins_one}

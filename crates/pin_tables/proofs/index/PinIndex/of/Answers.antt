@@ -1,4 +1,4 @@
-use Rattle.std.proofs.Common.{◌≡◌, ◌<◌, ◌∷◌, [], take, length, get_or, sym, subst, rules}
+use Rattle.std.proofs.Common.{◌∷◌, [], take, sym, subst, rules}
 use Rattle.pin_tables.specs.Index.{IsIndexOf}
 use Rattle.pin_tables.proofs.Indexes.{indexes_more, joins_one}
 use Rattle.pin_tables.proofs.Lists.{take_at}
