@@ -1,0 +1,6 @@
+pub mod Cutting
+pub mod Running
+pub mod Machine
+pub mod Compiles
+pub mod Spelling
+pub mod Completes

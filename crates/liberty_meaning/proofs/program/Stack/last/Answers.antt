@@ -1,0 +1,7 @@
+use Rattle.std.proofs.Common.{refl, sym, ap}
+use Rattle.liberty_meaning.specs.Compiling.{last_value}
+use Rattle.liberty_meaning.proofs.Running.{first_values-one}
+use Rattle.liberty_meaning.proofs.program.Stack.last.Goals as goal
+
+pub returns : goal.returns
+returns c = rw (first_values-one c.args.self.now.values c.args.self.now.held c.requires) refl

@@ -1,0 +1,7 @@
+//! What a Liberty cell does: its functions, flip-flops, latches and state tables (Liberty User Guide).
+#![tactic(auto)]
+
+mod compiler;
+mod program;
+mod scope;
+mod words;
