@@ -4,3 +4,5 @@ pub mod Machine
 pub mod Compiles
 pub mod Spelling
 pub mod Completes
+pub mod Accepts
+pub mod TextLemmas

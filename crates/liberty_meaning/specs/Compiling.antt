@@ -180,3 +180,12 @@ went_on sources c (Name n) = began sources (after_and c) (Name n)
 -- a token is taken; nothing, where it cannot follow
 unfoldable pub taken : (List ℕ → Source) → Standing → Word → Option Standing
 taken sources c w = if c.operand then went_on sources c w else began sources c w
+
+-- the steps of a whole function
+abbrev pub finished_in : Bool → List Part → List Step → Option (List Step)
+finished_in true [] steps = Some steps
+finished_in true (p ∷ outer) steps = None
+finished_in false outer steps = None
+
+abbrev pub finished : Standing → Option (List Step)
+finished c = finished_in c.operand c.outer (c.steps ++ ends_sum c.part)

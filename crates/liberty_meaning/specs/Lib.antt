@@ -1,3 +1,4 @@
 pub mod Words
 pub mod Function
 pub mod Compiling
+pub mod Texts

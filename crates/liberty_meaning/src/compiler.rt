@@ -204,4 +204,15 @@ impl Compiler {
             self.begin(scope, word)
         }
     }
+
+    /// The steps of the whole function; nothing where an operand or a parenthesis is wanted.
+    pub(crate) fn finish(mut self) -> Result<Option<Items<Step>>, NoMemory>
+        ensures { IfOk result (λ steps. steps ≡ spec.finished (standing_of self)) }
+    {
+        if !self.operand || !self.outer.is_empty() {
+            return Ok(None);
+        }
+        end_sum(&mut self.steps, self.part)?;
+        Ok(Some(self.steps))
+    }
 }

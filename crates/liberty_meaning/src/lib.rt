@@ -2,6 +2,8 @@
 #![tactic(auto)]
 
 mod compiler;
+mod function;
 mod program;
 mod scope;
+mod texts;
 mod words;

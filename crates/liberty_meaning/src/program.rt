@@ -122,7 +122,7 @@ impl Stack {
     }
 }
 
-fn run(pins: &[Tern], state: &[Tern], steps: &[Step]) -> Tern
+pub(crate) fn run(pins: &[Tern], state: &[Tern], steps: &[Step]) -> Tern
     requires { spec.fits steps.now 0 ≡ true }
     ensures { result ≡ spec.last_value (spec.after_steps (spec.source_value pins.now state.now) steps.now []) }
 {
