@@ -6,3 +6,7 @@ pub mod Spelling
 pub mod Completes
 pub mod Accepts
 pub mod TextLemmas
+pub mod Controls
+pub mod Naming
+pub mod OutputLemmas
+pub mod PairLemmas

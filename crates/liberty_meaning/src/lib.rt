@@ -3,7 +3,14 @@
 
 mod compiler;
 mod function;
+mod names;
+mod pair;
+mod pairs;
+mod outputs;
 mod program;
+mod refusal;
 mod scope;
 mod texts;
 mod words;
+
+pub use refusal::MeaningRefusal;

@@ -29,7 +29,7 @@ pub(crate) enum Join {
     Either,
 }
 
-fn value_at(values: &[Tern], k: usize) -> Tern
+pub(crate) fn value_at(values: &[Tern], k: usize) -> Tern
     ensures { result ≡ spec.value_at values.now k }
 {
     match values.get(k) {

@@ -1,0 +1,91 @@
+//! The outputs of a cell.
+ghost use Rattle.std.specs.Prelude.{◌≡◌, IfOk, ◌∷◌, [], Some, MatchOption, option_copied};
+ghost use Rattle.liberty_meaning.specs.Meaning as spec;
+ghost use Rattle.liberty_meaning.specs.declared.program.Step.TheVariants as step;
+
+use crate::function::Program;
+use crate::names::{is_output, place_of};
+use crate::program::{Source, Step};
+use crate::refusal::MeaningRefusal;
+use crate::scope::Scope;
+use crate::texts::{TextRefusal, compile_text};
+use liberty_source::LibertyPin;
+use std::alloc::Global;
+use text_scan::{Items, NoMemory, Text};
+
+fn told(place: usize) -> u32
+    ensures { result ≡ spec.told place }
+{
+    if place < 4294967295 { place as u32 } else { u32::MAX }
+}
+
+/// The program of one source.
+#[tactic(auto, unfolding(crate::specs::Compiling::fits))]
+pub(crate) fn source_program(alloc: Global, source: Source) -> Result<Program, NoMemory>
+    ensures { IfOk result (λ p. p.steps ≡ step.Push source ∷ []) }
+{
+    let mut steps = Items::new(alloc);
+    steps.push(Step::Push(source))?;
+    Ok(Program { steps })
+}
+
+/// The program of a text that belongs to a pin or an attribute.
+pub(crate) fn owned_program(alloc: Global, scope: &Scope, owner: &[u8], text: &Text) -> Result<Program, MeaningRefusal>
+    ensures { spec.IsOwnedAnswer scope.now.names owner.now (Some text.now) result }
+{
+    match compile_text(alloc, scope, text.as_bytes()) {
+        Ok(program) => Ok(program),
+        Err(TextRefusal::NoMemory) => Err(MeaningRefusal::NoMemory),
+        Err(TextRefusal::BadFunction(place)) => Err(MeaningRefusal::BadFunction {
+            owner: Text::from_bytes(alloc, owner)?,
+            place: told(place),
+        }),
+        Err(TextRefusal::UnknownName(name)) => Err(MeaningRefusal::UnknownName(name)),
+    }
+}
+
+/// An absent text is the constant 0.
+pub(crate) fn optional_program(alloc: Global, scope: &Scope, owner: &[u8], text: &Option<Text>) -> Result<Program, MeaningRefusal>
+    ensures { spec.IsOwnedAnswer scope.now.names owner.now text.now result }
+{
+    match text {
+        Some(text) => owned_program(alloc, scope, owner, text),
+        None => Ok(source_program(alloc, Source::Zero)?),
+    }
+}
+
+fn node_program(alloc: Global, nodes: &[Text], node: &Option<Text>) -> Result<Program, MeaningRefusal>
+    ensures { spec.IsNodeAnswer nodes.now node.now result }
+{
+    match node {
+        None => Ok(source_program(alloc, Source::Unknown)?),
+        Some(name) => match place_of(nodes, name.as_bytes()) {
+            Some(k) => Ok(source_program(alloc, Source::State(k))?),
+            None => Err(MeaningRefusal::UnknownName(name.copied(alloc)?)),
+        },
+    }
+}
+
+fn output_program(alloc: Global, scope: &Scope, nodes: &[Text], pin: &LibertyPin) -> Result<Program, MeaningRefusal>
+    ensures { spec.IsOutputAnswer scope.now.names nodes.now pin.now result }
+{
+    match (&pin.function, &pin.state_function) {
+        (Some(text), _) | (None, Some(text)) => {
+            owned_program(alloc, scope, pin.name.as_bytes(), text)
+        }
+        (None, None) => node_program(alloc, nodes, &pin.internal_node),
+    }
+}
+
+/// A program for each output pin, in their order.
+pub(crate) fn output_programs(alloc: Global, scope: &Scope, nodes: &[Text], pins: &[LibertyPin]) -> Result<Items<Program>, MeaningRefusal>
+    ensures { spec.IsOutputsAnswer scope.now.names nodes.now pins.now result }
+{
+    let mut programs = Items::new(alloc);
+    for pin in pins {
+        if is_output(pin) {
+            programs.push(output_program(alloc, scope, nodes, pin)?)?;
+        }
+    }
+    Ok(programs)
+}
