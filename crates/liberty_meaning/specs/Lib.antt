@@ -6,3 +6,9 @@ pub mod Pairs
 pub mod Names
 pub mod Meaning
 pub mod PairMeaning
+pub mod Symbols
+pub mod TableText
+pub mod Table
+pub mod TableMeaning
+pub mod Behaviour
+pub mod Cell

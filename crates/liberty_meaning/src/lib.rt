@@ -1,6 +1,8 @@
 //! What a Liberty cell does: its functions, flip-flops, latches and state tables (Liberty User Guide).
 #![tactic(auto)]
 
+mod behaviour;
+mod cell;
 mod compiler;
 mod function;
 mod names;
@@ -10,7 +12,13 @@ mod outputs;
 mod program;
 mod refusal;
 mod scope;
+mod symbols;
+mod table;
+mod table_rows;
+mod table_text;
 mod texts;
 mod words;
 
 pub use refusal::MeaningRefusal;
+pub use behaviour::Behaviour;
+pub use cell::compile;

@@ -123,3 +123,12 @@ pub(crate) fn scope_of(alloc: Global, cell: &LibertyCell) -> Result<Scope, NoMem
     push_states(alloc, &mut names, variables(&cell.state))?;
     Ok(Scope { names })
 }
+
+/// The input pins alone.
+pub(crate) fn inputs_scope(alloc: Global, pins: &[LibertyPin]) -> Result<Scope, NoMemory>
+    ensures { IfOk result (λ scope. scope.names ≡ spec.inputs_from 0 pins.now) }
+{
+    let mut names = Items::new(alloc);
+    push_inputs(alloc, &mut names, pins)?;
+    Ok(Scope { names })
+}

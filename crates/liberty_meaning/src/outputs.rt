@@ -13,7 +13,7 @@ use liberty_source::LibertyPin;
 use std::alloc::Global;
 use text_scan::{Items, NoMemory, Text};
 
-fn told(place: usize) -> u32
+pub(crate) fn told(place: usize) -> u32
     ensures { result ≡ spec.told place }
 {
     if place < 4294967295 { place as u32 } else { u32::MAX }

@@ -38,7 +38,7 @@ pub(crate) fn value_at(values: &[Tern], k: usize) -> Tern
     }
 }
 
-fn source_value(pins: &[Tern], state: &[Tern], source: Source) -> Tern
+pub(crate) fn source_value(pins: &[Tern], state: &[Tern], source: Source) -> Tern
     ensures { result ≡ spec.source_value pins.now state.now source }
 {
     match source {
