@@ -1,10 +1,10 @@
 -- The machine reads whatever is spelled, to the tree that is spelled.
-use Rattle.std.proofs.Common.{◌≡◌, ℕ, zero, suc, ◌+◌, ◌-◌, ◌<◌, ◌≤◌, refl, sym, ◌∙◌, ap, subst, arith, Bool, true, false, if◌then◌else◌, List, [], ◌∷◌, ◌++◌, length, Option, Some, None, nat_lt, append_assoc}
+use Rattle.std.proofs.Common.{◌≡◌, ℕ, zero, suc, ◌+◌, refl, ◌∙◌, ap, arith, Bool, true, false, List, [], ◌∷◌, ◌++◌, length, Option, Some, None, nat_lt}
 use Rattle.std.proofs.lemmas.Bool.Decides.{nat_tests}
 use Rattle.liberty_meaning.specs.declared.words.Word.{Word}
 use Rattle.liberty_meaning.specs.declared.words.Word.TheVariants.{Quote, Bang, Caret, And, Or, Open, Close, Zero, One, Name, Other}
-use Rattle.liberty_meaning.specs.Function.{Function, constant, name, inverse, exclusive, both, either, Level, atom, factor, exclusive_sum, product, sum, Spells, spells_zero, spells_one, spells_name, in_parentheses, inverted_after, one_atom, inverted_before, one_factor, by_caret, one_exclusive_sum, by_and, side_by_side, one_product, by_or}
-use Rattle.liberty_meaning.proofs.Machine.{Before, Machine, nothing, begin, inverted, joined, exclusive_of, product_of, sum_of, next, next_by, wanting, having, with_atom, past_caret, past_and, past_or, closing, if_open, run, then_run, run-append}
+use Rattle.liberty_meaning.specs.Function.{Function, inverse, exclusive, both, either, Level, atom, factor, exclusive_sum, product, sum, Spells, spells_zero, spells_one, spells_name, in_parentheses, inverted_after, one_atom, inverted_before, one_factor, by_caret, one_exclusive_sum, by_and, side_by_side, one_product, by_or}
+use Rattle.liberty_meaning.proofs.Machine.{Before, Machine, inverted, joined, sum_of, next, next_by, wanting, having, with_atom, past_and, run, then_run, run-append}
 
 abbrev pub at : List Before → Option Function → Option Function → Option Function → Option Function → Machine
 at outer s p e o = record { outer = outer; before = record { sums = s; products = p; exclusives = e; bangs = 0 }; operand = o }
@@ -115,7 +115,7 @@ goes_quote : (room : ℕ) (ts : List Word) (f : Function) → GoesAtom room ts f
 goes_quote room ts f more outer b h =
     run_then (wants outer b) (with_atom outer b f) ts (Quote ∷ []) _ (more outer b h)
     (run_one (with_atom outer b f) (with_atom outer b (inverse f)) Quote
-      (ap (λ k. let m : Machine = record { outer = outer; before = record { sums = b.sums; products = b.products; exclusives = b.exclusives; bangs = 0 }; operand = Some k } in Some m) (inverted-inverse b.bangs f)))
+    (ap (λ k. let m : Machine = record { outer = outer; before = record { sums = b.sums; products = b.products; exclusives = b.exclusives; bangs = 0 }; operand = Some k } in Some m) (inverted-inverse b.bangs f)))
 
 goes_bang : (room : ℕ) (ts : List Word) (f : Function) → GoesAtom room ts f → GoesAtom room (Bang ∷ ts) (inverse f)
 goes_bang room ts f more outer b h =
@@ -123,7 +123,7 @@ goes_bang room ts f more outer b h =
     let q : b.bangs + 1 ≡ suc b.bangs = omega arith in
     run_next (wants outer b) (wants outer c) Bang ts _ refl
     (more outer c h ∙ ap (λ n. let m : Machine = record { outer = outer; before = record { sums = b.sums; products = b.products; exclusives = b.exclusives; bangs = 0 }; operand = Some (inverted n f) } in Some m) q
-      ∙ ap (λ k. let m : Machine = record { outer = outer; before = record { sums = b.sums; products = b.products; exclusives = b.exclusives; bangs = 0 }; operand = Some k } in Some m) (inverted-inverse b.bangs f))
+    ∙ ap (λ k. let m : Machine = record { outer = outer; before = record { sums = b.sums; products = b.products; exclusives = b.exclusives; bangs = 0 }; operand = Some k } in Some m) (inverted-inverse b.bangs f))
 
 goes_open : (room : ℕ) (ts : List Word) (f : Function) → ((outer : List Before) → room + length outer ≡ 64 → EndsSum outer ts f) → GoesAtom (suc room) (Open ∷ (ts ++ Close ∷ [])) f
 goes_open room ts f more outer b h =
@@ -134,7 +134,7 @@ goes_open room ts f more outer b h =
     let z : run (at (b ∷ outer) r.s r.p r.e (Some r.g)) (Close ∷ []) ≡ Some (with_atom outer b (sum_of c r.g)) = run_one (at (b ∷ outer) r.s r.p r.e (Some r.g)) (with_atom outer b (sum_of c r.g)) Close refl in
     run_next (wants outer b) (at (b ∷ outer) None None None None) Open (ts ++ Close ∷ []) _ o
     (run_then (at (b ∷ outer) None None None None) (at (b ∷ outer) r.s r.p r.e (Some r.g)) ts (Close ∷ []) _ r.comes
-      (z ∙ ap (λ k. Some (with_atom outer b k)) r.value))
+    (z ∙ ap (λ k. Some (with_atom outer b k)) r.value))
 
 goes_caret : (room : ℕ) (ts us : List Word) (f g : Function) → Goes room exclusive_sum ts f → GoesAtom room us g → Goes room exclusive_sum (ts ++ Caret ∷ us) (exclusive f g)
 goes_caret room ts us f g left right outer s p h =
@@ -146,7 +146,7 @@ goes_caret room ts us f g left right outer s p h =
       e = Some f;
       g = g;
       comes = run_then (at outer s p None None) m ts (Caret ∷ us) _ l.comes (run_next m k Caret us _ n (right outer k.before h));
-      value = refl
+      value = refl;
     }
 
 goes_and : (room : ℕ) (ts us : List Word) (f g : Function) → Goes room product ts f → Goes room exclusive_sum us g → Goes room product (ts ++ And ∷ us) (both f g)
@@ -161,7 +161,7 @@ goes_and room ts us f g left right outer s h =
       e = r.e;
       g = r.g;
       comes = run_then (at outer s None None None) m ts (And ∷ us) _ l.comes (run_next m k And us _ n r.comes);
-      value = ap (λ j. both f j) r.value
+      value = ap (λ j. both f j) r.value;
     }
 
 goes_beside : (room : ℕ) (ts us : List Word) (f g : Function) → Begins us → Goes room product ts f → Goes room exclusive_sum us g → Goes room product (ts ++ us) (both f g)
@@ -175,7 +175,7 @@ goes_beside room ts us f g starts left right outer s h =
       e = r.e;
       g = r.g;
       comes = run_then (at outer s None None None) m ts us _ l.comes (n ∙ r.comes);
-      value = ap (λ j. both f j) r.value
+      value = ap (λ j. both f j) r.value;
     }
 
 goes_or : (room : ℕ) (ts us : List Word) (f g : Function) → Goes room sum ts f → Goes room product us g → Goes room sum (ts ++ Or ∷ us) (either f g)
@@ -191,7 +191,7 @@ goes_or room ts us f g left right outer h =
       e = r.e;
       g = r.g;
       comes = run_then (at outer None None None None) m ts (Or ∷ us) _ l.comes (run_next m k Or us _ n r.comes);
-      value = ap (λ j. either f j) r.value
+      value = ap (λ j. either f j) r.value;
     }
 
 goes_factor : (room : ℕ) (ts : List Word) (f : Function) → GoesAtom room ts f → Goes room exclusive_sum ts f

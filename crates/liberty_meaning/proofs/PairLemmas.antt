@@ -1,5 +1,5 @@
 -- The programs of a flip-flop or a latch compute what its functions say.
-use Rattle.std.proofs.Common.{◌≡◌, ℕ, refl, sym, ◌∙◌, ap, List, [], ◌∷◌, Option, Some, None}
+use Rattle.std.proofs.Common.{◌≡◌, ℕ, refl, List, ◌∷◌, Option}
 use Rattle.tern_core.specs.declared.tern.Tern.{Tern}
 use Rattle.liberty_source.specs.declared.Both.{Both}
 use Rattle.liberty_meaning.specs.declared.scope.Named.{Named}
@@ -11,16 +11,15 @@ use Rattle.liberty_meaning.specs.declared.refusal.MeaningRefusal.{MeaningRefusal
 use Rattle.liberty_meaning.specs.declared.refusal.MeaningRefusal.TheVariants as refusal
 use Rattle.liberty_meaning.specs.Function.{Function, value_of}
 use Rattle.liberty_meaning.specs.Texts.{name_value, steps_value}
-use Rattle.liberty_meaning.specs.Pairs.{controlled_pair, both_at}
 use Rattle.liberty_meaning.specs.Meaning.{IsFunctionOf, Computes, RefusesOptional, UnlessMemory}
-use Rattle.liberty_meaning.specs.PairMeaning.{IsPair, Functions, next_pair, pair_after, pair_of, uncontrolled, RefusesFirst, here, later, IsGood}
+use Rattle.liberty_meaning.specs.PairMeaning.{IsPair, pair_of, uncontrolled, RefusesFirst, here, later, IsGood}
 
 abbrev pub IsMade : List Named → Option (List ℕ) → Program → Type 0
 IsMade names text p = (f : Function) × IsFunctionOf names text f × Computes names p.steps f
 
 uncontrolled_same : (kind : Kind) (names : List Named) (c v : Program) (f g : Function) → Computes names c.steps f → Computes names v.steps g → (old new state : List Tern)
     → uncontrolled kind (λ pins s. steps_value pins s c.steps) (λ pins s. steps_value pins s v.steps) old new state (pair_of state)
-      ≡ uncontrolled kind (λ pins s. value_of (name_value names pins s) f) (λ pins s. value_of (name_value names pins s) g) old new state (pair_of state)
+    ≡ uncontrolled kind (λ pins s. value_of (name_value names pins s) f) (λ pins s. value_of (name_value names pins s) g) old new state (pair_of state)
 uncontrolled_same Clocked names c v f g h k old new state = rw (h old state, h new state, k old state) refl
 uncontrolled_same Latched names c v f g h k old new state = rw (h new state, k new state) refl
 
@@ -34,7 +33,7 @@ pair_of_programs kind names control value clear preset both c v x p hc hv hx hp 
   is_clear = hx.1;
   is_preset = hp.1;
   next = λ old new state.
-      rw (hx.2 new state, hp.2 new state, uncontrolled_same kind names c v hc.0 hv.0 hc.2 hv.2 old new state) refl
+      rw (hx.2 new state, hp.2 new state, uncontrolled_same kind names c v hc.0 hv.0 hc.2 hv.2 old new state) refl;
 }
 
 pub good : (names : List Named) (text : Option (List ℕ)) (p : Program) → IsMade names text p → IsGood names text

@@ -1,11 +1,10 @@
 -- The loops over the rows and the columns of a table.
-use Rattle.std.proofs.Common.{◌≡◌, ℕ, suc, ◌+◌, ◌<◌, ◌≤◌, refl, sym, ◌∙◌, ap, subst, arith, Bool, true, false, List, [], ◌∷◌, ◌++◌, length, take, drop, drop-cons, get_or, Option, Some, None, append_assoc, length-take}
+use Rattle.std.proofs.Common.{◌≡◌, ℕ, suc, ◌+◌, ◌<◌, ◌≤◌, refl, sym, ◌∙◌, ap, arith, Bool, true, false, List, [], ◌∷◌, ◌++◌, length, take, drop, drop-cons, get_or, Option, Some, None, append_assoc, length-take}
 use Rattle.std.proofs.lemmas.List.{take_more, take-append-drop, take_all, append-nil}
 use Rattle.liberty_meaning.specs.declared.program.Source.{Source}
 use Rattle.liberty_meaning.specs.declared.scope.Named.{Named}
 use Rattle.liberty_meaning.specs.declared.table.Row.{Row}
 use Rattle.liberty_meaning.specs.declared.table_text.RowWords.{RowWords}
-use Rattle.liberty_meaning.specs.declared.refusal.MeaningRefusal.{MeaningRefusal}
 use Rattle.liberty_meaning.specs.declared.refusal.MeaningRefusal.TheVariants as refusal
 use Rattle.liberty_meaning.specs.Compiling.{source_among}
 use Rattle.liberty_meaning.specs.Table.{made, PushesRows}
@@ -61,7 +60,7 @@ rows_bad n m texts i place p old new b h is e f t q =
       rows = old;
       good = e;
       refused = not_pushed (made n m p.words) old new g;
-      error = ap (λ k. refusal.BadStateRow k) (q ∙ ap (λ k. told (k + 1)) (sym l))
+      error = ap (λ k. refusal.BadStateRow k) (q ∙ ap (λ k. told (k + 1)) (sym l));
     }
 
 pub rows_whole : (n m : ℕ) (texts : List RowWords) (i : ℕ) (rows : List Row) → length texts ≤ i → all_made n m (take i texts) ≡ Some rows → all_made n m texts ≡ Some rows
@@ -100,7 +99,7 @@ columns_bad inputs names i n m cs h is e f q =
       columns = cs;
       good = e;
       refused = f;
-      error = ap (λ k. refusal.UnknownName k) q
+      error = ap (λ k. refusal.UnknownName k) q;
     }
 
 pub columns_whole : (inputs : List Named) (names : List (List ℕ)) (i : ℕ) (cs : List Source) → length names ≤ i → columns_in inputs (take i names) ≡ Some cs → columns_in inputs names ≡ Some cs

@@ -1,5 +1,5 @@
 -- What the machine has read is spelled by its parts.
-use Rattle.std.proofs.Common.{◌≡◌, ℕ, zero, suc, ◌+◌, ◌-◌, ◌<◌, ◌≤◌, refl, sym, ◌∙◌, ap, subst, arith, Bool, true, false, if◌then◌else◌, List, [], ◌∷◌, ◌++◌, length, map, replicate, Option, Some, None, nat_lt, is_some, append_assoc, ◌⊎◌, inl, inr}
+use Rattle.std.proofs.Common.{◌≡◌, ℕ, zero, suc, ◌+◌, ◌<◌, refl, sym, ◌∙◌, ap, subst, arith, Bool, true, false, if◌then◌else◌, List, [], ◌∷◌, ◌++◌, length, replicate, Option, Some, None, nat_lt, append_assoc, ◌⊎◌, inl, inr}
 use Rattle.std.proofs.lemmas.List.{append-nil}
 use Rattle.std.proofs.lemmas.Grind.{replicate_next}
 use Rattle.std.proofs.lemmas.Bool.Decides.{nat_tests}
@@ -7,7 +7,7 @@ use Rattle.tern_core.specs.declared.tern.Tern.TheVariants as tern
 use Rattle.liberty_meaning.specs.declared.words.Word.{Word}
 use Rattle.liberty_meaning.specs.declared.words.Word.TheVariants.{Quote, Bang, Caret, And, Or, Open, Close, Zero, One, Name, Other}
 use Rattle.liberty_meaning.specs.Function.{Function, constant, name, inverse, exclusive, both, either, Level, atom, factor, exclusive_sum, product, sum, Spells, spells_zero, spells_one, spells_name, in_parentheses, inverted_after, one_atom, inverted_before, one_factor, by_caret, one_exclusive_sum, by_and, side_by_side, one_product, by_or}
-use Rattle.liberty_meaning.proofs.Machine.{Before, Machine, nothing, begin, inverted, joined, exclusive_of, product_of, sum_of, next, next_by, wanting, having, with_atom, past_caret, past_and, past_or, closing, if_open, run, then_run}
+use Rattle.liberty_meaning.proofs.Machine.{Before, Machine, nothing, begin, inverted, joined, exclusive_of, product_of, sum_of, next, next_by, wanting, having, with_atom, past_caret, past_and, past_or, closing, run, then_run}
 
 -- something and the operator behind it, or nothing
 abbrev pub IsWaiting : ℕ → Level → Word → Option Function → List Word → Type 0
@@ -114,7 +114,7 @@ reads_atom room outer b us vs zs g o h s = record {
   whole = rw h.whole (simp append_assoc);
   outside = o;
   inside = record { ss = h.ss; ps = h.ps; es = h.es; whole = sym (append-nil ((h.ss ++ h.ps) ++ h.es)); sums = h.sums; products = h.products; exclusives = h.exclusives };
-  last = (refl, record { bangs = b.bangs; atoms = zs; plain = g; whole = refl; value = refl; spelled = s })
+  last = (refl, record { bangs = b.bangs; atoms = zs; plain = g; whole = refl; value = refl; spelled = s });
 }
 
 -- the same at the list that it makes
@@ -134,7 +134,7 @@ reads_bang outer b ts r = let h = r.inside in record {
   whole = rw (r.whole, r.last) (simp (append_assoc, append-nil));
   outside = r.outside;
   inside = record { ss = h.ss; ps = h.ps; es = h.es; whole = rw (h.whole, replicate_next b.bangs Bang) (simp append_assoc); sums = h.sums; products = h.products; exclusives = h.exclusives };
-  last = refl
+  last = refl;
 }
 
 room_of : (n k : ℕ) → n + k ≡ 64 → nat_lt k 64 ≡ true → (m : ℕ) × (n ≡ suc m)
@@ -155,7 +155,7 @@ reads_open outer b ts r t =
       whole = simp append-nil;
       outside = (r.us, r.vs, rw (r.whole, r.last) (simp append-nil), subst (λ k. IsOuter k outer r.us) s.1 r.outside, subst (λ k. IsBefore k b r.vs) s.1 r.inside);
       inside = nothing_before s.0;
-      last = refl
+      last = refl;
     }
 
 at_next : (k m : Machine) (ts : List Word) → Some k ≡ Some m → IsReadBy k ts → IsReadBy m ts
@@ -187,14 +187,17 @@ reads_quote outer b f ts r = let i = r.last.1 in record {
   whole = rw r.whole (append_assoc (r.us ++ r.vs) r.ws (Quote ∷ []));
   outside = r.outside;
   inside = r.inside;
-  last = (r.last.0, record {
-    bangs = i.bangs;
-    atoms = i.atoms ++ Quote ∷ [];
-    plain = inverse i.plain;
-    whole = rw i.whole (append_assoc (replicate i.bangs Bang) i.atoms (Quote ∷ []));
-    value = rw i.value (inverted-inverse i.bangs i.plain);
-    spelled = inverted_after i.spelled
-  })
+  last = (
+    r.last.0,
+    record {
+      bangs = i.bangs;
+      atoms = i.atoms ++ Quote ∷ [];
+      plain = inverse i.plain;
+      whole = rw i.whole (append_assoc (replicate i.bangs Bang) i.atoms (Quote ∷ []));
+      value = rw i.value (inverted-inverse i.bangs i.plain);
+      spelled = inverted_after i.spelled;
+    },
+  );
 }
 
 reads_caret : (outer : List Before) (b : Before) (f : Function) (ts : List Word) → IsRead outer b (Some f) ts → IsRead outer (past_caret b f) None (ts ++ Caret ∷ [])
@@ -212,9 +215,9 @@ reads_caret outer b f ts r = let h = r.inside in record {
     whole = rw (h.whole, r.last.0) (simp (append_assoc, append-nil));
     sums = h.sums;
     products = h.products;
-    exclusives = (h.es ++ r.ws, refl, spells_exclusive r.room b.exclusives h.es r.ws f h.exclusives (spells_factor r.room f r.ws r.last.1))
+    exclusives = (h.es ++ r.ws, refl, spells_exclusive r.room b.exclusives h.es r.ws f h.exclusives (spells_factor r.room f r.ws r.last.1));
   };
-  last = refl
+  last = refl;
 }
 
 reads_and : (outer : List Before) (b : Before) (f : Function) (ts : List Word) → IsRead outer b (Some f) ts → IsRead outer (past_and b f) None (ts ++ And ∷ [])
@@ -232,9 +235,9 @@ reads_and outer b f ts r = let h = r.inside in record {
     whole = rw (h.whole, r.last.0) (simp (append_assoc, append-nil));
     sums = h.sums;
     products = (h.ps ++ (h.es ++ r.ws), inl refl, part_product r.room b r.vs r.ws f h r.last);
-    exclusives = refl
+    exclusives = refl;
   };
-  last = refl
+  last = refl;
 }
 
 reads_beside : (outer : List Before) (b : Before) (f : Function) (ts : List Word) → IsRead outer b (Some f) ts → IsRead outer (past_and b f) None ts
@@ -252,9 +255,9 @@ reads_beside outer b f ts r = let h = r.inside in record {
     whole = rw (h.whole, r.last.0) (simp (append_assoc, append-nil));
     sums = h.sums;
     products = (h.ps ++ (h.es ++ r.ws), inr refl, part_product r.room b r.vs r.ws f h r.last);
-    exclusives = refl
+    exclusives = refl;
   };
-  last = refl
+  last = refl;
 }
 
 reads_or : (outer : List Before) (b : Before) (f : Function) (ts : List Word) → IsRead outer b (Some f) ts → IsRead outer (past_or b f) None (ts ++ Or ∷ [])
@@ -272,9 +275,9 @@ reads_or outer b f ts r = let h = r.inside in record {
     whole = rw r.last.0 (simp (append_assoc, append-nil));
     sums = (r.vs ++ r.ws, refl, part_sum r.room b r.vs r.ws f h r.last);
     products = refl;
-    exclusives = refl
+    exclusives = refl;
   };
-  last = refl
+  last = refl;
 }
 
 reads_close : (outer : List Before) (c b : Before) (f : Function) (ts : List Word) → IsRead (c ∷ outer) b (Some f) ts → IsReadBy (with_atom outer c (sum_of b f)) (ts ++ Close ∷ [])

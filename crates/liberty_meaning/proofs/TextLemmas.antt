@@ -1,5 +1,5 @@
 -- The loops over the tokens of a text.
-use Rattle.std.proofs.Common.{◌≡◌, ℕ, suc, ◌+◌, ◌<◌, ◌≤◌, refl, sym, ◌∙◌, ap, subst, arith, Bool, true, false, if◌then◌else◌, List, [], ◌∷◌, ◌++◌, length, map, take, drop, drop-cons, add-one, get_or, Option, Some, None, is_some}
+use Rattle.std.proofs.Common.{◌≡◌, ℕ, suc, ◌+◌, ◌<◌, ◌≤◌, refl, sym, ◌∙◌, ap, subst, Bool, true, false, if◌then◌else◌, List, [], ◌∷◌, ◌++◌, length, take, drop, drop-cons, add-one, get_or, Option, Some, None, is_some}
 use Rattle.std.proofs.lemmas.List.{take_more, take-append-drop, append-nil, take_all, drop_all, map-append}
 use Rattle.tern_core.specs.declared.tern.Tern.{Tern}
 use Rattle.liberty_meaning.specs.declared.words.Word.{Word}
@@ -89,9 +89,10 @@ early_here sources words end c a e = (words, [], sym (append-nil words), after_f
 
 made_at : (s : Scope) (ts : List Word) (f : Function) (steps : List Step) → IsFunction ts f → steps ≡ program_of (sources_of s) f
     → (fits steps 0 ≡ true) × ((f : Function) × IsFunction ts f × ((pins : List Tern) (state : List Tern) → steps_value pins state steps ≡ value_of (name_value s.names pins state) f))
-made_at s ts f steps h e =
-    (rw e (fits_function (sources_of s) ts f h),
-    (f, h, λ pins state. rw e (ap last_value (program_leaves (sources_of s) (source_value pins state) (constant_value pins state) f))))
+made_at s ts f steps h e = (
+  rw e (fits_function (sources_of s) ts f h),
+  (f, h, λ pins state. rw e (ap last_value (program_leaves (sources_of s) (source_value pins state) (constant_value pins state) f))),
+)
 
 pub made_here : (s : Scope) (ts : List Word) (c : Standing) (steps : List Step) → IsAfter (sources_of s) ts c → finished c ≡ Some steps
     → (fits steps 0 ≡ true) × ((f : Function) × IsFunction ts f × ((pins : List Tern) (state : List Tern) → steps_value pins state steps ≡ value_of (name_value s.names pins state) f))

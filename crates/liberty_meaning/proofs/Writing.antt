@@ -1,5 +1,5 @@
 -- A loop that writes each value of a state.
-use Rattle.std.proofs.Common.{◌≡◌, ◌≢◌, ℕ, suc, ◌+◌, ◌<◌, ◌≤◌, refl, sym, ◌∙◌, arith, List, length, set, get_or, below_more, get_or-set_same, get_or-set_other}
+use Rattle.std.proofs.Common.{◌≡◌, ◌≢◌, ℕ, ◌+◌, ◌<◌, ◌≤◌, refl, ◌∙◌, arith, List, length, set, below_more, get_or-set_same, get_or-set_other}
 use Rattle.tern_core.specs.declared.tern.Tern.{Tern}
 use Rattle.tern_core.specs.declared.tern.Tern.TheVariants as tern
 use Rattle.liberty_meaning.specs.Compiling.{value_at}
@@ -16,5 +16,5 @@ written_more f old now k v h e w = record {
   done = below_more (λ j. value_at (set now k v) j ≡ f j) k
       (λ j l. let ne : j ≢ k = omega arith in get_or-set_other now k j v tern.Unknown ne ∙ w.done j l)
       (get_or-set_same now k v tern.Unknown h ∙ e);
-  left = λ j l. let ne : j ≢ k = omega arith in get_or-set_other now k j v tern.Unknown ne ∙ w.left j (omega arith)
+  left = λ j l. let ne : j ≢ k = omega arith in get_or-set_other now k j v tern.Unknown ne ∙ w.left j (omega arith);
 }

@@ -1,5 +1,5 @@
 -- What compile answers: the cell's meaning, or the first thing in it that has none.
-use Rattle.std.specs.Prelude.{◌≡◌, ℕ, Bool, true, false, if◌then◌else◌, List, [], ◌∷◌, length, Option, Some, None, is_some, Result, Ok, Err, ◌⊎◌}
+use Rattle.std.specs.Prelude.{◌≡◌, ℕ, true, if◌then◌else◌, List, [], ◌∷◌, length, Option, Some, None, is_some, Result, Ok, Err, ◌⊎◌}
 use Rattle.liberty_source.specs.declared.LibertyCell.{LibertyCell}
 use Rattle.liberty_source.specs.declared.LibertyPin.{LibertyPin}
 use Rattle.liberty_source.specs.declared.RowsText.{RowsText}
@@ -22,7 +22,7 @@ use Rattle.liberty_meaning.specs.PairMeaning.{IsFfAnswer, IsLatchAnswer}
 abbrev pub IsTableAnswer : List LibertyPin → RowsText → Result Table MeaningRefusal → Type 0
 IsTableAnswer pins r (Ok t) = (columns_in (inputs_from 0 pins) r.inputs ≡ Some t.columns) × (all_made (length r.inputs) (length r.nodes) (rows_of r.table) ≡ Some t.rows)
 IsTableAnswer pins r (Err e) =
-  UnlessMemory e (RefusesColumns (inputs_from 0 pins) r.inputs e ⊎ (is_some (columns_in (inputs_from 0 pins) r.inputs) ≡ true) × RefusesRows (length r.inputs) (length r.nodes) (rows_of r.table) e)
+    UnlessMemory e (RefusesColumns (inputs_from 0 pins) r.inputs e ⊎ (is_some (columns_in (inputs_from 0 pins) r.inputs) ≡ true) × RefusesRows (length r.inputs) (length r.nodes) (rows_of r.table) e)
 
 abbrev pub IsStateAnswer : List Named → List LibertyPin → StateGroup → Result StateProgram MeaningRefusal → Type 0
 IsStateAnswer names pins Stateless (Ok s) = s ≡ program.Nothing

@@ -126,7 +126,7 @@ with_operand c steps = record {
   outer = c.outer;
   part = record c.part { inversions = 0 };
   operand = true;
-  steps = (c.steps ++ steps) ++ replicate c.part.inversions Invert
+  steps = (c.steps ++ steps) ++ replicate c.part.inversions Invert;
 }
 
 abbrev pub start : Standing
@@ -161,7 +161,7 @@ after_close c (p ∷ outer) = Some (record {
   outer = outer;
   part = record p { inversions = 0 };
   operand = true;
-  steps = (c.steps ++ ends_sum c.part) ++ replicate p.inversions Invert
+  steps = (c.steps ++ ends_sum c.part) ++ replicate p.inversions Invert;
 })
 
 abbrev pub went_on : (List ℕ → Source) → Standing → Word → Option Standing

@@ -1,7 +1,6 @@
 -- What a flip-flop and a latch mean (Liberty User Guide, "ff Group", "latch Group").
-use Rattle.std.specs.Prelude.{◌≡◌, ℕ, Bool, true, false, List, [], ◌∷◌, codes, Option, Some, None, Result, Ok, Err}
+use Rattle.std.specs.Prelude.{◌≡◌, ℕ, List, [], ◌∷◌, codes, Option, Some, None, Result, Ok, Err}
 use Rattle.tern_core.specs.declared.tern.Tern.{Tern}
-use Rattle.tern_core.specs.declared.tern.Tern.TheVariants as tern
 use Rattle.liberty_source.specs.declared.Both.{Both}
 use Rattle.liberty_source.specs.declared.FfText.{FfText}
 use Rattle.liberty_source.specs.declared.LatchText.{LatchText}
@@ -16,7 +15,7 @@ use Rattle.liberty_meaning.specs.Function.{Function, value_of}
 use Rattle.liberty_meaning.specs.Compiling.{value_at}
 use Rattle.liberty_meaning.specs.Texts.{name_value, steps_value}
 use Rattle.liberty_meaning.specs.Pairs.{pair, clocked_pair, latched_pair, controlled_pair, both_at}
-use Rattle.liberty_meaning.specs.Meaning.{IsFunctionOf, Computes, RefusesOptional, UnlessMemory}
+use Rattle.liberty_meaning.specs.Meaning.{IsFunctionOf, RefusesOptional, UnlessMemory}
 
 -- the two first values of a state
 abbrev pub pair_of : List Tern → Pair
@@ -45,7 +44,7 @@ pub record Functions : Type 0 where
 -- the pair after a change of the pins, with clear and preset on the new pins
 abbrev pub pair_after : Kind → List Both → List Named → Functions → List Tern → List Tern → List Tern → Pair
 pair_after kind both names fs old new state =
-  controlled_pair (value_of (name_value names new state) fs.clear) (value_of (name_value names new state) fs.preset) (both_at both 0) (both_at both 1) (pair_of state)
+    controlled_pair (value_of (name_value names new state) fs.clear) (value_of (name_value names new state) fs.preset) (both_at both 0) (both_at both 1) (pair_of state)
     (uncontrolled kind (λ pins s. value_of (name_value names pins s) fs.control) (λ pins s. value_of (name_value names pins s) fs.value) old new state (pair_of state))
 
 -- the functions are those of the texts, and the programs compute the pair

@@ -1,5 +1,5 @@
 -- The two state variables of a flip-flop and of a latch (Liberty User Guide, "ff Group", "latch Group"), as cases on values.
-use Rattle.std.specs.Prelude.{◌≡◌, ℕ, Bool, true, false, List, [], ◌∷◌, ◌++◌, slice_index_or}
+use Rattle.std.specs.Prelude.{ℕ, Bool, true, false, List, [], ◌∷◌, ◌++◌, slice_index_or}
 use Rattle.tern_core.specs.declared.tern.Tern.{Tern}
 use Rattle.tern_core.specs.declared.tern.Tern.TheVariants.{Zero, One, Unknown}
 use Rattle.tern_core.specs.Values.{not_of, common_of, common_of_all}
@@ -76,8 +76,8 @@ both_value says.Unknown old = Unknown
 -- the pair after clear, which gives 0 and 1, and preset, which gives 1 and 0
 abbrev pub controlled_pair : Tern → Tern → Both → Both → Pair → Pair → Pair
 controlled_pair clear preset both1 both2 old p = pair
-  (controlled clear preset (record { neither = p.first; cleared = Zero; preset = One; both = both_value both1 old.first }))
-  (controlled clear preset (record { neither = p.second; cleared = One; preset = Zero; both = both_value both2 old.second }))
+    (controlled clear preset (record { neither = p.first; cleared = Zero; preset = One; both = both_value both1 old.first }))
+    (controlled clear preset (record { neither = p.second; cleared = One; preset = Zero; both = both_value both2 old.second }))
 
 -- what stands for the first or second variable
 abbrev pub both_at : List Both → ℕ → Both

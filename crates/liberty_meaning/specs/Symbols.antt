@@ -9,10 +9,10 @@ use Rattle.liberty_meaning.specs.declared.symbols.Role.TheVariants.{Input, Node,
 
 abbrev pub edge_of : List ℕ → Option Symbol
 edge_of word =
-  if bytes_eq word (codes "R") then Some Rise else
-  if bytes_eq word (codes "F") then Some Fall else
-  if bytes_eq word (codes "~R") then Some NotRise else
-  if bytes_eq word (codes "~F") then Some NotFall else None
+    if bytes_eq word (codes "R") then Some Rise else
+    if bytes_eq word (codes "F") then Some Fall else
+    if bytes_eq word (codes "~R") then Some NotRise else
+    if bytes_eq word (codes "~F") then Some NotFall else None
 
 abbrev pub result_of : List ℕ → Option Symbol
 result_of word = if bytes_eq word (codes "X") then Some Unknown else if bytes_eq word (codes "N") then Some Keep else None
@@ -29,11 +29,11 @@ is_slash word = bytes_eq word (codes "L/H") || bytes_eq word (codes "H/L")
 -- the symbol of a word; of a slash word its first or its second letter
 abbrev pub symbol_of : Role → Bool → List ℕ → Option Symbol
 symbol_of role second word =
-  if bytes_eq word (codes "L") then Some Low else
-  if bytes_eq word (codes "H") then Some High else
-  if bytes_eq word (codes "-") then Some Any else
-  if bytes_eq word (codes "L/H") then Some (if second then High else Low) else
-  if bytes_eq word (codes "H/L") then Some (if second then Low else High) else special_of role word
+    if bytes_eq word (codes "L") then Some Low else
+    if bytes_eq word (codes "H") then Some High else
+    if bytes_eq word (codes "-") then Some Any else
+    if bytes_eq word (codes "L/H") then Some (if second then High else Low) else
+    if bytes_eq word (codes "H/L") then Some (if second then Low else High) else special_of role word
 
 abbrev pub is_zero : Tern → Bool
 is_zero tern.Zero = true

@@ -1,8 +1,7 @@
 -- State tables (Liberty User Guide, "statetable Group"): the first row that matches decides.
-use Rattle.std.specs.Prelude.{◌≡◌, ℕ, zero, suc, ◌+◌, ◌-◌, Bool, true, false, ◌&&◌, ◌==◌, if◌then◌else◌, List, [], ◌∷◌, ◌++◌, length, take, drop, codes, bytes_eq, slice_index_or, slice_get, Option, Some, None, find}
+use Rattle.std.specs.Prelude.{◌≡◌, ℕ, ◌+◌, Bool, true, false, ◌&&◌, ◌==◌, if◌then◌else◌, List, [], ◌∷◌, ◌++◌, length, take, drop, codes, bytes_eq, slice_get, Option, Some, None}
 use Rattle.std.specs.List.{list_all, list_any, zip}
 use Rattle.tern_core.specs.declared.tern.Tern.{Tern}
-use Rattle.tern_core.specs.declared.tern.Tern.TheVariants as tern
 use Rattle.liberty_meaning.specs.declared.program.Source.{Source}
 use Rattle.liberty_meaning.specs.declared.symbols.Symbol.{Symbol}
 use Rattle.liberty_meaning.specs.declared.symbols.Role.{Role}
@@ -10,7 +9,7 @@ use Rattle.liberty_meaning.specs.declared.symbols.Role.TheVariants.{Input, Node,
 use Rattle.liberty_meaning.specs.declared.table.Row.{Row}
 use Rattle.liberty_meaning.specs.declared.table.Table.{Table}
 use Rattle.liberty_meaning.specs.Compiling.{source_value}
-use Rattle.liberty_meaning.specs.Symbols.{symbol_of, is_slash, matches_symbol, next_value}
+use Rattle.liberty_meaning.specs.Symbols.{symbol_of, is_slash, matches_symbol}
 
 abbrev pub with_symbol : Option Symbol → Option (List Symbol) → Option (List Symbol)
 with_symbol None more = None
@@ -51,9 +50,9 @@ has_form n m words = is_colon_at words n && (is_colon_at (drop (n + 1) words) m 
 -- the row of the words, with the first or the second letter of each slash word
 abbrev pub row_of : Bool → ℕ → ℕ → List (List ℕ) → Option Row
 row_of second n m words =
-  if has_form n m words
-  then row_by (symbols_of Input second (take n words)) (symbols_of Node second (take m (drop (n + 1) words))) (symbols_of Next second (drop (m + 1) (drop (n + 1) words)))
-  else None
+    if has_form n m words
+    then row_by (symbols_of Input second (take n words)) (symbols_of Node second (take m (drop (n + 1) words))) (symbols_of Next second (drop (m + 1) (drop (n + 1) words)))
+    else None
 
 abbrev pub seconds : Option Row → Option (List Row)
 seconds None = None

@@ -1,5 +1,5 @@
 -- The text of a state table: words between blanks, in rows between commas.
-use Rattle.std.specs.Prelude.{ℕ, Bool, true, false, ◌==◌, if◌then◌else◌, List, [], ◌∷◌, ◌++◌}
+use Rattle.std.specs.Prelude.{ℕ, ◌==◌, if◌then◌else◌, List, [], ◌∷◌, ◌++◌}
 use Rattle.liberty_meaning.specs.declared.table_text.RowWords.{RowWords}
 use Rattle.liberty_meaning.specs.Words.{is_blank}
 
@@ -20,9 +20,9 @@ last_row (w ∷ ws) = row_words (w ∷ ws) ∷ []
 unfoldable pub rows_from : List (List ℕ) → List ℕ → List ℕ → List RowWords
 rows_from row word [] = last_row (row ++ ended word)
 rows_from row word (b ∷ bs) =
-  if b == 44 then row_words (row ++ ended word) ∷ rows_from [] [] bs
-  else if is_blank b then rows_from (row ++ ended word) [] bs
-  else rows_from row (word ++ b ∷ []) bs
+    if b == 44 then row_words (row ++ ended word) ∷ rows_from [] [] bs
+    else if is_blank b then rows_from (row ++ ended word) [] bs
+    else rows_from row (word ++ b ∷ []) bs
 
 unfoldable pub rows_of : List ℕ → List RowWords
 rows_of text = rows_from [] [] text

@@ -1,5 +1,5 @@
 -- The tokens of a function text.
-use Rattle.std.specs.Prelude.{ℕ, ◌+◌, ◌-◌, Bool, true, false, ◌||◌, ◌&&◌, ◌==◌, nat_le, if◌then◌else◌, List, [], ◌∷◌, ◌++◌, length, map}
+use Rattle.std.specs.Prelude.{ℕ, ◌+◌, ◌-◌, Bool, false, ◌||◌, ◌&&◌, ◌==◌, nat_le, if◌then◌else◌, List, [], ◌∷◌, ◌++◌, length, map}
 use Rattle.liberty_meaning.specs.declared.words.Word.{Word}
 use Rattle.liberty_meaning.specs.declared.words.Word.TheVariants.{Quote, Bang, Caret, And, Or, Open, Close, Zero, One, Name, Other}
 use Rattle.liberty_meaning.specs.declared.words.Placed.{Placed}
@@ -19,15 +19,15 @@ is_name_byte b = is_letter b || (nat_le 48 b && nat_le b 57)
 -- ' ! ^ * & + | ( ) 0 1; any other byte is a token that nothing can be made of
 unfoldable pub sign_of : ℕ → Word
 sign_of b =
-  if b == 39 then Quote else
-  if b == 33 then Bang else
-  if b == 94 then Caret else
-  if b == 42 || b == 38 then And else
-  if b == 43 || b == 124 then Or else
-  if b == 40 then Open else
-  if b == 41 then Close else
-  if b == 48 then Zero else
-  if b == 49 then One else Other
+    if b == 39 then Quote else
+    if b == 33 then Bang else
+    if b == 94 then Caret else
+    if b == 42 || b == 38 then And else
+    if b == 43 || b == 124 then Or else
+    if b == 40 then Open else
+    if b == 41 then Close else
+    if b == 48 then Zero else
+    if b == 49 then One else Other
 
 -- a name has at most 128 bytes
 unfoldable pub name_of : List ℕ → Word
@@ -55,8 +55,8 @@ signs place b = if is_letter b then [] else if is_blank b then [] else record { 
 unfoldable pub words_from : ℕ → List ℕ → List ℕ → List Placed
 words_from place name [] = closed place name
 words_from place name (b ∷ bs) =
-  if goes_on name b then words_from (place + 1) (name ++ b ∷ []) bs
-  else (closed place name ++ signs place b) ++ words_from (place + 1) (begun b) bs
+    if goes_on name b then words_from (place + 1) (name ++ b ∷ []) bs
+    else (closed place name ++ signs place b) ++ words_from (place + 1) (begun b) bs
 
 unfoldable pub words_of : List ℕ → List Placed
 words_of text = words_from 0 [] text

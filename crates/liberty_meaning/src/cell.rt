@@ -25,14 +25,22 @@ fn table_of(alloc: Global, pins: &[LibertyPin], rows: &RowsText) -> Result<Table
     Ok(Table { columns, rows })
 }
 
-fn state_program(alloc: Global, scope: &Scope, cell: &LibertyCell) -> Result<StateProgram, MeaningRefusal>
+fn state_program(
+    alloc: Global,
+    scope: &Scope,
+    cell: &LibertyCell,
+) -> Result<StateProgram, MeaningRefusal>
     ensures { spec.IsStateAnswer scope.now.names cell.now.pins cell.now.state result }
 {
     match &cell.state {
         StateGroup::Stateless => Ok(StateProgram::Nothing),
         StateGroup::Ff(ff) => Ok(StateProgram::Pair(ff_programs(alloc, scope, ff)?)),
         StateGroup::Latch(latch) => Ok(StateProgram::Pair(latch_programs(alloc, scope, latch)?)),
-        StateGroup::Rows(rows) => Ok(StateProgram::Rows(table_of(alloc, cell.pins.as_slice(), rows)?)),
+        StateGroup::Rows(rows) => Ok(StateProgram::Rows(table_of(
+            alloc,
+            cell.pins.as_slice(),
+            rows,
+        )?)),
     }
 }
 

@@ -6,9 +6,9 @@ mod cell;
 mod compiler;
 mod function;
 mod names;
+mod outputs;
 mod pair;
 mod pairs;
-mod outputs;
 mod program;
 mod refusal;
 mod scope;
@@ -19,6 +19,6 @@ mod table_text;
 mod texts;
 mod words;
 
-pub use refusal::MeaningRefusal;
 pub use behaviour::Behaviour;
 pub use cell::compile;
+pub use refusal::MeaningRefusal;

@@ -71,7 +71,12 @@ fn internal_source(nodes: &[Text], node: &Option<Text>) -> Source
     }
 }
 
-fn push_named(alloc: Global, names: &mut Items<Named>, name: &Text, source: Source) -> Result<(), NoMemory>
+fn push_named(
+    alloc: Global,
+    names: &mut Items<Named>,
+    name: &Text,
+    source: Source,
+) -> Result<(), NoMemory>
     ensures { OnOk result (names.new ≡ names.old ++ (record { name = name.now; source = source }) ∷ []) }
 {
     names.push(Named {
@@ -93,12 +98,22 @@ fn push_inputs(alloc: Global, names: &mut Items<Named>, pins: &[LibertyPin]) -> 
     Ok(())
 }
 
-fn push_internals(alloc: Global, names: &mut Items<Named>, nodes: &[Text], pins: &[LibertyPin]) -> Result<(), NoMemory>
+fn push_internals(
+    alloc: Global,
+    names: &mut Items<Named>,
+    nodes: &[Text],
+    pins: &[LibertyPin],
+) -> Result<(), NoMemory>
     ensures { OnOk result (names.new ≡ names.old ++ spec.internals_of nodes.now pins.now) }
 {
     for pin in pins {
         if is_internal(pin) {
-            push_named(alloc, names, &pin.name, internal_source(nodes, &pin.internal_node))?;
+            push_named(
+                alloc,
+                names,
+                &pin.name,
+                internal_source(nodes, &pin.internal_node),
+            )?;
         }
     }
     Ok(())

@@ -16,7 +16,11 @@ use text_scan::{Items, NoMemory, Text};
 pub(crate) fn told(place: usize) -> u32
     ensures { result ≡ spec.told place }
 {
-    if place < 4294967295 { place as u32 } else { u32::MAX }
+    if place < 4294967295 {
+        place as u32
+    } else {
+        u32::MAX
+    }
 }
 
 /// The program of one source.
@@ -30,7 +34,12 @@ pub(crate) fn source_program(alloc: Global, source: Source) -> Result<Program, N
 }
 
 /// The program of a text that belongs to a pin or an attribute.
-pub(crate) fn owned_program(alloc: Global, scope: &Scope, owner: &[u8], text: &Text) -> Result<Program, MeaningRefusal>
+pub(crate) fn owned_program(
+    alloc: Global,
+    scope: &Scope,
+    owner: &[u8],
+    text: &Text,
+) -> Result<Program, MeaningRefusal>
     ensures { spec.IsOwnedAnswer scope.now.names owner.now (Some text.now) result }
 {
     match compile_text(alloc, scope, text.as_bytes()) {
@@ -45,7 +54,12 @@ pub(crate) fn owned_program(alloc: Global, scope: &Scope, owner: &[u8], text: &T
 }
 
 /// An absent text is the constant 0.
-pub(crate) fn optional_program(alloc: Global, scope: &Scope, owner: &[u8], text: &Option<Text>) -> Result<Program, MeaningRefusal>
+pub(crate) fn optional_program(
+    alloc: Global,
+    scope: &Scope,
+    owner: &[u8],
+    text: &Option<Text>,
+) -> Result<Program, MeaningRefusal>
     ensures { spec.IsOwnedAnswer scope.now.names owner.now text.now result }
 {
     match text {
@@ -54,7 +68,11 @@ pub(crate) fn optional_program(alloc: Global, scope: &Scope, owner: &[u8], text:
     }
 }
 
-fn node_program(alloc: Global, nodes: &[Text], node: &Option<Text>) -> Result<Program, MeaningRefusal>
+fn node_program(
+    alloc: Global,
+    nodes: &[Text],
+    node: &Option<Text>,
+) -> Result<Program, MeaningRefusal>
     ensures { spec.IsNodeAnswer nodes.now node.now result }
 {
     match node {
@@ -66,7 +84,12 @@ fn node_program(alloc: Global, nodes: &[Text], node: &Option<Text>) -> Result<Pr
     }
 }
 
-fn output_program(alloc: Global, scope: &Scope, nodes: &[Text], pin: &LibertyPin) -> Result<Program, MeaningRefusal>
+fn output_program(
+    alloc: Global,
+    scope: &Scope,
+    nodes: &[Text],
+    pin: &LibertyPin,
+) -> Result<Program, MeaningRefusal>
     ensures { spec.IsOutputAnswer scope.now.names nodes.now pin.now result }
 {
     match (&pin.function, &pin.state_function) {
@@ -78,7 +101,12 @@ fn output_program(alloc: Global, scope: &Scope, nodes: &[Text], pin: &LibertyPin
 }
 
 /// A program for each output pin, in their order.
-pub(crate) fn output_programs(alloc: Global, scope: &Scope, nodes: &[Text], pins: &[LibertyPin]) -> Result<Items<Program>, MeaningRefusal>
+pub(crate) fn output_programs(
+    alloc: Global,
+    scope: &Scope,
+    nodes: &[Text],
+    pins: &[LibertyPin],
+) -> Result<Items<Program>, MeaningRefusal>
     ensures { spec.IsOutputsAnswer scope.now.names nodes.now pins.now result }
 {
     let mut programs = Items::new(alloc);

@@ -88,11 +88,29 @@ fn controlled(clear: Tern, preset: Tern, neither: Tern, cleared: Tern, both: Ter
     )
 }
 
-pub(crate) fn controlled_pair(clear: Tern, preset: Tern, both: [Both; 2], old: Pair, pair: Pair) -> Pair
+pub(crate) fn controlled_pair(
+    clear: Tern,
+    preset: Tern,
+    both: [Both; 2],
+    old: Pair,
+    pair: Pair,
+) -> Pair
     ensures { result ≡ spec.controlled_pair clear preset (spec.both_at both 0) (spec.both_at both 1) old pair }
 {
     Pair {
-        first: controlled(clear, preset, pair.first, Tern::Zero, both_value(both[0], old.first)),
-        second: controlled(clear, preset, pair.second, Tern::One, both_value(both[1], old.second)),
+        first: controlled(
+            clear,
+            preset,
+            pair.first,
+            Tern::Zero,
+            both_value(both[0], old.first),
+        ),
+        second: controlled(
+            clear,
+            preset,
+            pair.second,
+            Tern::One,
+            both_value(both[1], old.second),
+        ),
     }
 }

@@ -103,7 +103,11 @@ fn ff_programs_of(alloc: Global, scope: &Scope, ff: &FfText) -> Result<PairProgr
     })
 }
 
-pub(crate) fn ff_programs(alloc: Global, scope: &Scope, ff: &FfText) -> Result<PairPrograms, MeaningRefusal>
+pub(crate) fn ff_programs(
+    alloc: Global,
+    scope: &Scope,
+    ff: &FfText,
+) -> Result<PairPrograms, MeaningRefusal>
     ensures { spec.IsFfAnswer scope.now.names ff.now result }
 {
     match (&ff.next_state, &ff.clocked_on) {
@@ -112,7 +116,11 @@ pub(crate) fn ff_programs(alloc: Global, scope: &Scope, ff: &FfText) -> Result<P
     }
 }
 
-fn latch_programs_of(alloc: Global, scope: &Scope, latch: &LatchText) -> Result<PairPrograms, MeaningRefusal>
+fn latch_programs_of(
+    alloc: Global,
+    scope: &Scope,
+    latch: &LatchText,
+) -> Result<PairPrograms, MeaningRefusal>
     ensures { spec.IsLatchTextsAnswer scope.now.names latch.now result }
 {
     let control = optional_program(alloc, scope, b"enable", &latch.enable)?;
@@ -129,7 +137,11 @@ fn latch_programs_of(alloc: Global, scope: &Scope, latch: &LatchText) -> Result<
     })
 }
 
-pub(crate) fn latch_programs(alloc: Global, scope: &Scope, latch: &LatchText) -> Result<PairPrograms, MeaningRefusal>
+pub(crate) fn latch_programs(
+    alloc: Global,
+    scope: &Scope,
+    latch: &LatchText,
+) -> Result<PairPrograms, MeaningRefusal>
     ensures { spec.IsLatchAnswer scope.now.names latch.now result }
 {
     match (&latch.enable, &latch.data_in) {

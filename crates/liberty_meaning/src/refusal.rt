@@ -11,17 +11,11 @@ pub enum MeaningRefusal {
     /// `internal_node` that is no node.
     UnknownName(Text),
     /// The text of a pin or an attribute is no function: the number of bytes before the token that cannot follow.
-    BadFunction {
-        owner: Text,
-        place: u32,
-    },
+    BadFunction { owner: Text, place: u32 },
     /// The row of a `statetable`, counted from 1.
     BadStateRow(u32),
     /// An `ff` without `next_state` or `clocked_on`, or a `latch` with just one of `enable` and `data_in`.
-    Construct {
-        word: Text,
-        line: u32,
-    },
+    Construct { word: Text, line: u32 },
 }
 
 impl From<NoMemory> for MeaningRefusal {

@@ -27,7 +27,12 @@ pub(crate) struct Table {
 }
 
 /// The symbols of the words; nothing where a word is none.
-fn symbols_of(alloc: Global, role: Role, second: bool, words: &[Text]) -> Result<Option<Items<Symbol>>, NoMemory>
+fn symbols_of(
+    alloc: Global,
+    role: Role,
+    second: bool,
+    words: &[Text],
+) -> Result<Option<Items<Symbol>>, NoMemory>
     ensures { IfOk result (λ symbols. symbols ≡ spec.symbols_of role second words.now) }
 {
     let mut symbols = Items::new(alloc);
@@ -52,10 +57,11 @@ fn is_colon(words: &[Text], k: usize) -> bool
 fn inputs_match(columns: &[Source], symbols: &[Symbol], old: &[Tern], new: &[Tern]) -> bool
     ensures { result ≡ spec.inputs_match columns.now symbols.now old.now new.now }
 {
-    symbols
-        .iter()
-        .zip(columns)
-        .all(|(s, c)| matches_symbol(*s, source_value(old, &[], *c), source_value(new, &[], *c)))
+    symbols.iter().zip(columns).all(|(s, c)| matches_symbol(
+        *s,
+        source_value(old, &[], *c),
+        source_value(new, &[], *c),
+    ))
 }
 
 fn nodes_match(symbols: &[Symbol], state: &[Tern]) -> bool
@@ -75,7 +81,13 @@ fn matches_row(row: &Row, columns: &[Source], old: &[Tern], new: &[Tern], state:
 }
 
 /// The row of the words, with the first or the second letter of each slash word; nothing where they are no row.
-fn row_of(alloc: Global, second: bool, inputs: usize, nodes: usize, words: &[Text]) -> Result<Option<Row>, NoMemory>
+fn row_of(
+    alloc: Global,
+    second: bool,
+    inputs: usize,
+    nodes: usize,
+    words: &[Text],
+) -> Result<Option<Row>, NoMemory>
     ensures { IfOk result (λ row. row ≡ spec.row_of second inputs nodes words.now) }
 {
     if !is_colon(words, inputs) {
@@ -109,7 +121,13 @@ fn has_slash(words: &[Text]) -> bool
 }
 
 /// Appends the one or two rows of the words; false where they are no row.
-pub(crate) fn push_rows(alloc: Global, rows: &mut Items<Row>, inputs: usize, nodes: usize, words: &[Text]) -> Result<bool, NoMemory>
+pub(crate) fn push_rows(
+    alloc: Global,
+    rows: &mut Items<Row>,
+    inputs: usize,
+    nodes: usize,
+    words: &[Text],
+) -> Result<bool, NoMemory>
     ensures { IfOk result (λ good. spec.PushesRows (spec.made inputs nodes words.now) rows.old rows.new good) }
 {
     match row_of(alloc, false, inputs, nodes, words)? {

@@ -12,7 +12,12 @@ use std::alloc::Global;
 use text_scan::{Items, Text};
 
 /// The rows of all texts, each of so many input and node words.
-pub(crate) fn made_rows(alloc: Global, inputs: usize, nodes: usize, texts: &[RowWords]) -> Result<Items<Row>, MeaningRefusal>
+pub(crate) fn made_rows(
+    alloc: Global,
+    inputs: usize,
+    nodes: usize,
+    texts: &[RowWords],
+) -> Result<Items<Row>, MeaningRefusal>
     ensures { spec.IsRowsAnswer inputs nodes texts.now result }
 {
     let mut rows = Items::new(alloc);
@@ -25,7 +30,11 @@ pub(crate) fn made_rows(alloc: Global, inputs: usize, nodes: usize, texts: &[Row
 }
 
 /// Where the columns take their values from, among the input pins.
-pub(crate) fn columns_of(alloc: Global, inputs: &Scope, names: &[Text]) -> Result<Items<Source>, MeaningRefusal>
+pub(crate) fn columns_of(
+    alloc: Global,
+    inputs: &Scope,
+    names: &[Text],
+) -> Result<Items<Source>, MeaningRefusal>
     ensures { spec.IsColumnsAnswer inputs.now.names names.now result }
 {
     let mut columns = Items::new(alloc);

@@ -56,7 +56,12 @@ fn first_unknown<'a>(scope: &Scope, words: &'a [Placed]) -> Option<&'a Text>
     None
 }
 
-fn steps_of_words(alloc: Global, scope: &Scope, words: &[Placed], end: usize) -> Result<Items<Step>, TextRefusal>
+fn steps_of_words(
+    alloc: Global,
+    scope: &Scope,
+    words: &[Placed],
+    end: usize,
+) -> Result<Items<Step>, TextRefusal>
     ensures { spec.IsStepsAnswer scope.now words.now end result }
 {
     let mut compiler = Compiler::new(alloc);
@@ -71,7 +76,11 @@ fn steps_of_words(alloc: Global, scope: &Scope, words: &[Placed], end: usize) ->
     }
 }
 
-pub(crate) fn compile_text(alloc: Global, scope: &Scope, text: &[u8]) -> Result<Program, TextRefusal>
+pub(crate) fn compile_text(
+    alloc: Global,
+    scope: &Scope,
+    text: &[u8],
+) -> Result<Program, TextRefusal>
     ensures { spec.IsTextAnswer scope.now.names text.now result }
 {
     let words = words_of_text(alloc, text)?;

@@ -1,4 +1,4 @@
-use Rattle.std.proofs.Common.{◌≡◌, ◌∙◌, ◌++◌, sym, ap, arith, true, false, rules}
+use Rattle.std.proofs.Common.{◌≡◌, ◌∙◌, ◌++◌, sym, ap, arith, true, false}
 use Rattle.std.proofs.lemmas.List.{append-nil}
 use Rattle.liberty_meaning.specs.Names.{is_direction_input}
 use Rattle.liberty_meaning.proofs.Naming.{input_here, no_input_here, inputs_end, one_on}
@@ -12,13 +12,13 @@ loop-pin-preserved c =
           let e : is_direction_input c.pin-item.result.direction ≡ true = cc in
           record {
             names = rw (w.names-is, w.k-is) (one_on _ c.loop-pin.names _ _ _ (rw (input_here c.loop-pin.k c.args.pins.now c.loop-pin.pin-index c.pin-item.result c.loop-pin-test.true c.pin-item.is e) at c.loop-pin.invariant.names) w.in_ok-push_named.ensures);
-            few = omega (arith, w.k-is, c.loop-pin.invariant.few)
+            few = omega (arith, w.k-is, c.loop-pin.invariant.few);
           }
       | else-is_input w ↦
           let e : is_direction_input c.pin-item.result.direction ≡ false = cc in
           record {
             names = rw (w.names-is, w.k-is) (rw (no_input_here c.loop-pin.k c.args.pins.now c.loop-pin.pin-index c.pin-item.result c.loop-pin-test.true c.pin-item.is e) at c.loop-pin.invariant.names);
-            few = omega (arith, w.k-is, c.loop-pin.invariant.few)
+            few = omega (arith, w.k-is, c.loop-pin.invariant.few);
           }
     ]
 

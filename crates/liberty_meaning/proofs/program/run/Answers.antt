@@ -1,4 +1,4 @@
-use Rattle.std.proofs.Common.{◌≡◌, ◌∙◌, refl, sym, ap, arith, length, ◌≤◌}
+use Rattle.std.proofs.Common.{◌∙◌, refl, sym, ap, arith}
 use Rattle.liberty_meaning.specs.Compiling.{last_value}
 use Rattle.liberty_meaning.proofs.Running.{first_values-none, fits_here, leads_here, fits_end, leads_end}
 use Rattle.liberty_meaning.proofs.program.run.Goals as goal
@@ -12,7 +12,7 @@ take-requires c = (fits_here c.args.steps.now c.loop-step.step-index c.loop-step
 pub loop-step-preserved : goal.loop-step-preserved
 loop-step-preserved c = record {
   fits = rw c.take.ensures.held (fits_here c.args.steps.now c.loop-step.step-index c.loop-step.stack.held _ c.loop-step-test.true c.loop-step.invariant.fits).1;
-  leads = rw c.take.ensures.values (c.loop-step.invariant.leads ∙ leads_here _ c.args.steps.now c.loop-step.step-index _ _ c.loop-step-test.true)
+  leads = rw c.take.ensures.values (c.loop-step.invariant.leads ∙ leads_here _ c.args.steps.now c.loop-step.step-index _ _ c.loop-step-test.true);
 }
 
 pub last-requires : goal.last-requires

@@ -1,5 +1,5 @@
-use Rattle.std.proofs.Common.{◌≡◌, ◌∙◌, sym, arith, ap, rules, None, Some}
-use Rattle.liberty_meaning.specs.Compiling.{Standing, taken, sources_of, standing_of, finished}
+use Rattle.std.proofs.Common.{◌≡◌, ◌∙◌, sym, arith, ap, None, Some}
+use Rattle.liberty_meaning.specs.Compiling.{Standing, taken, sources_of, standing_of}
 use Rattle.liberty_meaning.proofs.Accepts.{after_none, inversions_most}
 use Rattle.liberty_meaning.proofs.TextLemmas.{stuck_here, more_here, whole_after, early_here, made_here, is_else, is_then}
 use Rattle.liberty_meaning.proofs.texts.steps_of_words.Goals as goal
@@ -17,7 +17,7 @@ loop-placed-preserved c =
     let e : taken (sources_of c.args.scope.now) (standing_of c.loop-placed.compiler) c.placed-item.result.word ≡ Some (standing_of c.take.new.self) = is_then _ _ _ c.in_ok-take.ensures c.if-not-branch.false in
     record {
       after = more_here (sources_of c.args.scope.now) c.args.words.now c.loop-placed.placed-index c.placed-item.result (standing_of c.loop-placed.compiler) _ c.loop-placed-test.true c.placed-item.is c.loop-placed.invariant.after e;
-      short = omega (arith, inversions_most (sources_of c.args.scope.now) (standing_of c.loop-placed.compiler) (standing_of c.take.new.self) c.placed-item.result.word e)
+      short = omega (arith, inversions_most (sources_of c.args.scope.now) (standing_of c.loop-placed.compiler) (standing_of c.take.new.self) c.placed-item.result.word e);
     }
 
 pub returns-in-Some : goal.returns-in-Some

@@ -1,4 +1,4 @@
-use Rattle.std.proofs.Common.{◌≡◌, ◌≤◌, take}
+use Rattle.std.proofs.Common.{◌≤◌, take}
 use Rattle.liberty_meaning.specs.Compiling.{sources_of, standing_of}
 use Rattle.liberty_meaning.specs.Words.{bare}
 use Rattle.liberty_meaning.proofs.Accepts.{IsAfter}
@@ -7,5 +7,5 @@ use Rattle.liberty_meaning.proofs.texts.steps_of_words.Given as goal
 abbrev pub invariant-loop-placed : goal.invariant-loop-placed
 invariant-loop-placed l = record {
   after : IsAfter (sources_of l.scope) (bare (take l.placed-index l.words)) (standing_of l.compiler);
-  short : l.compiler.part.inversions ≤ l.placed-index
+  short : l.compiler.part.inversions ≤ l.placed-index;
 }
