@@ -1,5 +1,5 @@
 -- What the compiler makes of a list of tokens.
-use Rattle.std.proofs.Common.{◌≡◌, ℕ, zero, suc, ◌+◌, ◌-◌, ◌*◌, ◌<◌, ◌≤◌, refl, sym, ◌∙◌, ap, subst, arith, Bool, true, false, if◌then◌else◌, List, [], ◌∷◌, ◌++◌, length, map, replicate, Option, Some, None, nat_lt, nat_le, ◌&&◌, is_some, max, append_assoc}
+use Rattle.std.proofs.Common.{◌≡◌, ℕ, ◌+◌, ◌-◌, ◌*◌, ◌≤◌, refl, sym, ◌∙◌, ap, arith, Bool, true, false, if◌then◌else◌, List, [], ◌∷◌, ◌++◌, length, Option, Some, None, nat_lt, nat_le, ◌&&◌, max, append_assoc}
 use Rattle.std.proofs.lemmas.List.{append-nil}
 use Rattle.std.proofs.lemmas.Bool.Decides.{nat_tests}
 use Rattle.tern_core.specs.declared.tern.Tern.{Tern}
@@ -7,17 +7,16 @@ use Rattle.tern_core.specs.declared.tern.Tern.TheVariants as tern
 use Rattle.liberty_meaning.specs.declared.words.Word.{Word}
 use Rattle.liberty_meaning.specs.declared.words.Word.TheVariants.{Quote, Bang, Caret, And, Or, Open, Close, Zero, One, Name, Other}
 use Rattle.liberty_meaning.specs.declared.program.Source.{Source}
-use Rattle.liberty_meaning.specs.declared.program.Source.TheVariants as source
 use Rattle.liberty_meaning.specs.declared.program.Step.{Step}
 use Rattle.liberty_meaning.specs.declared.program.Step.TheVariants.{Push, Invert, Join}
 use Rattle.liberty_meaning.specs.declared.program.Join as join
 use Rattle.liberty_meaning.specs.declared.program.Join.TheVariants.{Exclusive, Both, Either}
 use Rattle.liberty_meaning.specs.declared.compiler.Part.{Part}
 use Rattle.liberty_meaning.specs.Function.{Function, constant, name, inverse, exclusive, both, either, value_of, Level, atom, factor, exclusive_sum, product, sum, Spells, spells_zero, spells_one, spells_name, in_parentheses, inverted_after, one_atom, inverted_before, one_factor, by_caret, one_exclusive_sum, by_and, side_by_side, one_product, by_or, IsFunction, IsFront}
-use Rattle.liberty_meaning.specs.Compiling.{Standing, taken, began, went_on, after_open, after_and, after_close, start, finished, ends_sum, fits, step_fits, held_after, after_steps, after_step, source_value}
+use Rattle.liberty_meaning.specs.Compiling.{Standing, taken, began, went_on, after_open, after_and, after_close, start, finished, ends_sum, fits, step_fits, held_after, after_steps, source_value}
 use Rattle.liberty_meaning.proofs.Machine.{Before, Machine, begin, sum_of, next, next_by, run, then_run, run-append}
-use Rattle.liberty_meaning.proofs.Compiles.{constant_source, program_of, standing, machine_standing, compiles, part_of, ends-sum, before_steps, outer_steps}
-use Rattle.liberty_meaning.proofs.Spelling.{IsReadBy, reads_from_begin, reads_whole, ending, EndsFrom, ends}
+use Rattle.liberty_meaning.proofs.Compiles.{constant_source, program_of, standing, machine_standing, compiles, part_of, ends-sum, before_steps}
+use Rattle.liberty_meaning.proofs.Spelling.{reads_from_begin, reads_whole, ending, ends}
 use Rattle.liberty_meaning.proofs.Completes.{goes, EndsSum, at}
 
 pub record IsAfter (sources : List ℕ → Source) (ts : List Word) (c : Standing) : Type 0 where

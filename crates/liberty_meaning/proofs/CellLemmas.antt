@@ -1,5 +1,5 @@
 -- The internal pins of a cell.
-use Rattle.std.proofs.Common.{◌≡◌, ℕ, ◌+◌, ◌<◌, ◌≤◌, refl, sym, ◌∙◌, ap, Bool, true, false, if◌then◌else◌, List, [], ◌∷◌, length, drop, get_or, Option, Some, None, is_some}
+use Rattle.std.proofs.Common.{◌≡◌, ℕ, ◌+◌, ◌<◌, ◌≤◌, refl, Bool, true, false, if◌then◌else◌, List, [], length, drop, get_or, Option, Some, None, is_some}
 use Rattle.std.proofs.lemmas.List.{drop_all}
 use Rattle.liberty_source.specs.declared.LibertyPin.{LibertyPin}
 use Rattle.liberty_meaning.specs.Names.{place_from, is_direction_internal}

@@ -1,5 +1,5 @@
 -- The compiler is the machine: its flags say which parts wait, and its steps are their programs.
-use Rattle.std.proofs.Common.{◌≡◌, ℕ, zero, suc, ◌+◌, ◌-◌, ◌<◌, ◌≤◌, refl, sym, ◌∙◌, ap, arith, Bool, true, false, if◌then◌else◌, List, [], ◌∷◌, ◌++◌, length, map, replicate, Option, Some, None, nat_lt, is_some, append_assoc, add-one}
+use Rattle.std.proofs.Common.{◌≡◌, ℕ, zero, suc, ◌+◌, refl, sym, ◌∙◌, ap, arith, Bool, true, false, if◌then◌else◌, List, [], ◌∷◌, ◌++◌, length, map, replicate, Option, Some, None, nat_lt, is_some, append_assoc}
 use Rattle.std.proofs.lemmas.List.{append-nil, length-map}
 use Rattle.std.proofs.lemmas.Grind.{replicate_next}
 use Rattle.tern_core.specs.declared.tern.Tern.{Tern}
@@ -13,8 +13,8 @@ use Rattle.liberty_meaning.specs.declared.program.Step.TheVariants.{Push, Invert
 use Rattle.liberty_meaning.specs.declared.program.Join.TheVariants.{Exclusive, Both, Either}
 use Rattle.liberty_meaning.specs.declared.compiler.Part.{Part}
 use Rattle.liberty_meaning.specs.Function.{Function, constant, name, inverse, exclusive, both, either}
-use Rattle.liberty_meaning.specs.Compiling.{Standing, taken, began, went_on, step_if, ends_exclusive, ends_product, ends_sum, empty_part, start, after_open, after_and, after_close}
-use Rattle.liberty_meaning.proofs.Machine.{Before, Machine, nothing, begin, inverted, joined, exclusive_of, product_of, sum_of, next, next_by, wanting, having, with_atom, past_caret, past_and, past_or, closing, if_open}
+use Rattle.liberty_meaning.specs.Compiling.{Standing, taken, began, went_on, ends_exclusive, ends_product, ends_sum, empty_part, after_open, after_and, after_close}
+use Rattle.liberty_meaning.proofs.Machine.{Before, Machine, nothing, inverted, exclusive_of, product_of, sum_of, next_by, wanting, having, past_and, closing}
 
 -- the program of a constant
 abbrev pub constant_source : Tern → Source

@@ -1,10 +1,10 @@
 -- The machine reads whatever is spelled, to the tree that is spelled.
-use Rattle.std.proofs.Common.{◌≡◌, ℕ, zero, suc, ◌+◌, ◌-◌, ◌<◌, ◌≤◌, refl, sym, ◌∙◌, ap, subst, arith, Bool, true, false, if◌then◌else◌, List, [], ◌∷◌, ◌++◌, length, Option, Some, None, nat_lt, append_assoc}
+use Rattle.std.proofs.Common.{◌≡◌, ℕ, zero, suc, ◌+◌, refl, ◌∙◌, ap, arith, Bool, true, false, List, [], ◌∷◌, ◌++◌, length, Option, Some, None, nat_lt}
 use Rattle.std.proofs.lemmas.Bool.Decides.{nat_tests}
 use Rattle.liberty_meaning.specs.declared.words.Word.{Word}
 use Rattle.liberty_meaning.specs.declared.words.Word.TheVariants.{Quote, Bang, Caret, And, Or, Open, Close, Zero, One, Name, Other}
-use Rattle.liberty_meaning.specs.Function.{Function, constant, name, inverse, exclusive, both, either, Level, atom, factor, exclusive_sum, product, sum, Spells, spells_zero, spells_one, spells_name, in_parentheses, inverted_after, one_atom, inverted_before, one_factor, by_caret, one_exclusive_sum, by_and, side_by_side, one_product, by_or}
-use Rattle.liberty_meaning.proofs.Machine.{Before, Machine, nothing, begin, inverted, joined, exclusive_of, product_of, sum_of, next, next_by, wanting, having, with_atom, past_caret, past_and, past_or, closing, if_open, run, then_run, run-append}
+use Rattle.liberty_meaning.specs.Function.{Function, inverse, exclusive, both, either, Level, atom, factor, exclusive_sum, product, sum, Spells, spells_zero, spells_one, spells_name, in_parentheses, inverted_after, one_atom, inverted_before, one_factor, by_caret, one_exclusive_sum, by_and, side_by_side, one_product, by_or}
+use Rattle.liberty_meaning.proofs.Machine.{Before, Machine, inverted, joined, sum_of, next, next_by, wanting, having, with_atom, past_and, run, then_run, run-append}
 
 abbrev pub at : List Before → Option Function → Option Function → Option Function → Option Function → Machine
 at outer s p e o = record { outer = outer; before = record { sums = s; products = p; exclusives = e; bangs = 0 }; operand = o }

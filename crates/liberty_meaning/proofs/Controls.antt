@@ -1,9 +1,9 @@
 -- Choosing by one control and then by the other is the common value over all choices.
-use Rattle.std.proofs.Common.{◌≡◌, refl, sym}
+use Rattle.std.proofs.Common.{◌≡◌, refl}
 use Rattle.tern_core.specs.declared.tern.Tern.{Tern}
 use Rattle.tern_core.specs.declared.tern.Tern.TheVariants.{Zero, One, Unknown}
 use Rattle.tern_core.specs.Values.{common_of}
-use Rattle.liberty_meaning.specs.Pairs.{chosen, controlled, Outcomes}
+use Rattle.liberty_meaning.specs.Pairs.{chosen, controlled}
 
 common_unknown : (a : Tern) → common_of a Unknown ≡ Unknown
 common_unknown Zero = refl

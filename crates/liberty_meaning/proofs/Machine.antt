@@ -1,10 +1,9 @@
 -- The compiler's way over trees: what it has read, as parts that wait for an operand.
-use Rattle.std.proofs.Common.{◌≡◌, ℕ, zero, suc, ◌+◌, ◌-◌, ◌<◌, ◌≤◌, refl, sym, ◌∙◌, ap, arith, Bool, true, false, if◌then◌else◌, List, [], ◌∷◌, ◌++◌, length, map, replicate, Option, Some, None, nat_lt, is_some, append_assoc}
-use Rattle.tern_core.specs.declared.tern.Tern.{Tern}
+use Rattle.std.proofs.Common.{◌≡◌, ℕ, zero, suc, ◌+◌, refl, if◌then◌else◌, List, [], ◌∷◌, ◌++◌, length, Option, Some, None, nat_lt}
 use Rattle.tern_core.specs.declared.tern.Tern.TheVariants as tern
 use Rattle.liberty_meaning.specs.declared.words.Word.{Word}
 use Rattle.liberty_meaning.specs.declared.words.Word.TheVariants.{Quote, Bang, Caret, And, Or, Open, Close, Zero, One, Name, Other}
-use Rattle.liberty_meaning.specs.Function.{Function, constant, name, inverse, exclusive, both, either, Spells, Level}
+use Rattle.liberty_meaning.specs.Function.{Function, constant, name, inverse, exclusive, both, either}
 
 -- what stands before an operand between two parentheses
 pub record Before : Type 0 where

@@ -1,6 +1,6 @@
 -- The loops that list the names of a cell.
-use Rattle.std.proofs.Common.{◌≡◌, ℕ, suc, ◌+◌, ◌<◌, ◌≤◌, refl, sym, ◌∙◌, ap, Bool, true, false, if◌then◌else◌, List, [], ◌∷◌, ◌++◌, length, drop, drop-cons, add-one, get_or, Option, Some, None, bytes_eq, append_assoc}
-use Rattle.std.proofs.lemmas.List.{drop_all, append-nil}
+use Rattle.std.proofs.Common.{◌≡◌, ℕ, suc, ◌+◌, ◌<◌, ◌≤◌, refl, sym, ◌∙◌, ap, true, false, List, [], ◌∷◌, ◌++◌, length, drop, drop-cons, add-one, get_or, Some, None, bytes_eq, append_assoc}
+use Rattle.std.proofs.lemmas.List.{drop_all}
 use Rattle.liberty_source.specs.declared.LibertyPin.{LibertyPin}
 use Rattle.liberty_meaning.specs.declared.program.Source.TheVariants as source
 use Rattle.liberty_meaning.specs.declared.scope.Named.{Named}

@@ -1,5 +1,5 @@
 -- The programs of outputs.
-use Rattle.std.proofs.Common.{◌≡◌, ℕ, suc, ◌+◌, ◌<◌, ◌≤◌, refl, sym, ◌∙◌, ap, subst, Bool, true, false, List, [], ◌∷◌, ◌++◌, length, take, drop, drop-cons, get_or, Option, Some, None, Result, Ok, Err}
+use Rattle.std.proofs.Common.{◌≡◌, ℕ, suc, ◌+◌, ◌<◌, ◌≤◌, refl, sym, ◌∙◌, ap, subst, Bool, true, false, List, [], ◌∷◌, ◌++◌, length, take, drop, drop-cons, get_or, Some, Ok}
 use Rattle.std.proofs.lemmas.List.{take_more, take-append-drop, take_all}
 use Rattle.tern_core.specs.declared.tern.Tern.{Tern}
 use Rattle.tern_core.specs.declared.tern.Tern.TheVariants as tern
@@ -11,7 +11,7 @@ use Rattle.liberty_meaning.specs.declared.scope.Named.{Named}
 use Rattle.liberty_meaning.specs.declared.refusal.MeaningRefusal.{MeaningRefusal}
 use Rattle.liberty_meaning.specs.declared.refusal.MeaningRefusal.TheVariants as refusal
 use Rattle.liberty_meaning.specs.Function.{constant}
-use Rattle.liberty_meaning.specs.Compiling.{after_steps, value_at, source_value}
+use Rattle.liberty_meaning.specs.Compiling.{after_steps}
 use Rattle.liberty_meaning.specs.Texts.{steps_value}
 use Rattle.liberty_meaning.specs.Names.{place_from, is_direction_output}
 use Rattle.liberty_meaning.specs.Meaning.{IsNodeAnswer, Computes, OutputsAre, OutputFirst, IsOutput, RefusesOutput, RefusesOutputs, UnlessMemory}

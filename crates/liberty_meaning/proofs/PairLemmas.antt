@@ -1,5 +1,5 @@
 -- The programs of a flip-flop or a latch compute what its functions say.
-use Rattle.std.proofs.Common.{◌≡◌, ℕ, refl, sym, ◌∙◌, ap, List, [], ◌∷◌, Option, Some, None}
+use Rattle.std.proofs.Common.{◌≡◌, ℕ, refl, List, ◌∷◌, Option}
 use Rattle.tern_core.specs.declared.tern.Tern.{Tern}
 use Rattle.liberty_source.specs.declared.Both.{Both}
 use Rattle.liberty_meaning.specs.declared.scope.Named.{Named}
@@ -11,9 +11,8 @@ use Rattle.liberty_meaning.specs.declared.refusal.MeaningRefusal.{MeaningRefusal
 use Rattle.liberty_meaning.specs.declared.refusal.MeaningRefusal.TheVariants as refusal
 use Rattle.liberty_meaning.specs.Function.{Function, value_of}
 use Rattle.liberty_meaning.specs.Texts.{name_value, steps_value}
-use Rattle.liberty_meaning.specs.Pairs.{controlled_pair, both_at}
 use Rattle.liberty_meaning.specs.Meaning.{IsFunctionOf, Computes, RefusesOptional, UnlessMemory}
-use Rattle.liberty_meaning.specs.PairMeaning.{IsPair, Functions, next_pair, pair_after, pair_of, uncontrolled, RefusesFirst, here, later, IsGood}
+use Rattle.liberty_meaning.specs.PairMeaning.{IsPair, pair_of, uncontrolled, RefusesFirst, here, later, IsGood}
 
 abbrev pub IsMade : List Named → Option (List ℕ) → Program → Type 0
 IsMade names text p = (f : Function) × IsFunctionOf names text f × Computes names p.steps f

@@ -1,5 +1,5 @@
 -- The cutting of a table's text.
-use Rattle.std.proofs.Common.{arith, ◌≡◌, ℕ, suc, ◌+◌, ◌<◌, ◌≤◌, refl, sym, ◌∙◌, ap, Bool, true, false, ◌==◌, if◌then◌else◌, List, [], ◌∷◌, ◌++◌, length, drop, get_or, append_assoc, Option, Some, None}
+use Rattle.std.proofs.Common.{arith, ◌≡◌, ℕ, ◌+◌, ◌<◌, ◌≤◌, refl, sym, ◌∙◌, ap, Bool, true, false, ◌==◌, List, [], ◌∷◌, ◌++◌, length, drop, get_or, append_assoc, Option, Some, None}
 use Rattle.std.proofs.lemmas.List.{drop_all, append-nil}
 use Rattle.liberty_meaning.specs.declared.table_text.RowWords.{RowWords}
 use Rattle.std.proofs.lemmas.Bool.Decides.{nat_tests}
@@ -10,7 +10,7 @@ use Rattle.std.specs.List.{list_any}
 use Rattle.tern_core.specs.declared.tern.Tern.{Tern}
 use Rattle.liberty_meaning.specs.declared.program.Source.{Source}
 use Rattle.liberty_meaning.specs.declared.table.Row.{Row}
-use Rattle.liberty_meaning.specs.Table.{with_symbol, symbols_of, is_colon, matches_row, first_matching, row_of, made, PushesRows}
+use Rattle.liberty_meaning.specs.Table.{with_symbol, symbols_of, matches_row, first_matching, row_of, made, PushesRows}
 use Rattle.liberty_meaning.proofs.Naming.{next_item}
 use Rattle.liberty_meaning.specs.Words.{is_blank}
 use Rattle.liberty_meaning.specs.TableText.{row_words, ended, last_row, rows_from, rows_of}

@@ -1,5 +1,5 @@
 -- The loops over the tokens of a text.
-use Rattle.std.proofs.Common.{◌≡◌, ℕ, suc, ◌+◌, ◌<◌, ◌≤◌, refl, sym, ◌∙◌, ap, subst, arith, Bool, true, false, if◌then◌else◌, List, [], ◌∷◌, ◌++◌, length, map, take, drop, drop-cons, add-one, get_or, Option, Some, None, is_some}
+use Rattle.std.proofs.Common.{◌≡◌, ℕ, suc, ◌+◌, ◌<◌, ◌≤◌, refl, sym, ◌∙◌, ap, subst, Bool, true, false, if◌then◌else◌, List, [], ◌∷◌, ◌++◌, length, take, drop, drop-cons, add-one, get_or, Option, Some, None, is_some}
 use Rattle.std.proofs.lemmas.List.{take_more, take-append-drop, append-nil, take_all, drop_all, map-append}
 use Rattle.tern_core.specs.declared.tern.Tern.{Tern}
 use Rattle.liberty_meaning.specs.declared.words.Word.{Word}

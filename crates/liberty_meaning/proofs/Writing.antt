@@ -1,5 +1,5 @@
 -- A loop that writes each value of a state.
-use Rattle.std.proofs.Common.{◌≡◌, ◌≢◌, ℕ, suc, ◌+◌, ◌<◌, ◌≤◌, refl, sym, ◌∙◌, arith, List, length, set, get_or, below_more, get_or-set_same, get_or-set_other}
+use Rattle.std.proofs.Common.{◌≡◌, ◌≢◌, ℕ, ◌+◌, ◌<◌, ◌≤◌, refl, ◌∙◌, arith, List, length, set, below_more, get_or-set_same, get_or-set_other}
 use Rattle.tern_core.specs.declared.tern.Tern.{Tern}
 use Rattle.tern_core.specs.declared.tern.Tern.TheVariants as tern
 use Rattle.liberty_meaning.specs.Compiling.{value_at}

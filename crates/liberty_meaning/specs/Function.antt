@@ -1,11 +1,11 @@
 -- Functions of a Liberty library (Liberty User Guide, "function Simple Attribute", its table of operators):
 -- which tokens spell which tree, and the tree's value.
-use Rattle.std.specs.Prelude.{◌≡◌, ℕ, zero, suc, List, [], ◌∷◌, ◌++◌, length, ◌⊎◌}
+use Rattle.std.specs.Prelude.{◌≡◌, ℕ, suc, List, [], ◌∷◌, ◌++◌, length}
 use Rattle.tern_core.specs.declared.tern.Tern.{Tern}
 use Rattle.tern_core.specs.declared.tern.Tern.TheVariants as tern
 use Rattle.tern_core.specs.Values.{not_of, and_of, or_of, xor_of}
 use Rattle.liberty_meaning.specs.declared.words.Word.{Word}
-use Rattle.liberty_meaning.specs.declared.words.Word.TheVariants.{Quote, Bang, Caret, And, Or, Open, Close, Zero, One, Name, Other}
+use Rattle.liberty_meaning.specs.declared.words.Word.TheVariants.{Quote, Bang, Caret, And, Or, Open, Close, Zero, One, Name}
 use Rattle.liberty_meaning.specs.declared.words.Placed.{Placed}
 use Rattle.liberty_meaning.specs.Words.{words_of, bare}
 

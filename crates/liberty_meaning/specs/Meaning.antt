@@ -1,17 +1,10 @@
 -- What a Liberty cell means: its outputs' values and its next state, as functions spelled by its texts.
-use Rattle.std.specs.Prelude.{◌≡◌, ℕ, ◌+◌, Bool, true, false, if◌then◌else◌, List, [], ◌∷◌, ◌++◌, length, codes, min, Option, Some, None, is_some, Result, Ok, Err, ◌⊎◌}
+use Rattle.std.specs.Prelude.{◌≡◌, ℕ, Bool, true, false, List, [], ◌∷◌, ◌++◌, min, Option, Some, None, Result, Ok, Err}
 use Rattle.tern_core.specs.declared.tern.Tern.{Tern}
 use Rattle.tern_core.specs.declared.tern.Tern.TheVariants as tern
-use Rattle.liberty_source.specs.declared.Both.{Both}
-use Rattle.liberty_source.specs.declared.LibertyCell.{LibertyCell}
 use Rattle.liberty_source.specs.declared.LibertyPin.{LibertyPin}
-use Rattle.liberty_source.specs.declared.StateGroup.{StateGroup}
-use Rattle.liberty_source.specs.declared.StateGroup.TheVariants.{Stateless, Ff, Latch, Rows}
-use Rattle.liberty_source.specs.declared.FfText.{FfText}
-use Rattle.liberty_source.specs.declared.LatchText.{LatchText}
 use Rattle.liberty_meaning.specs.declared.program.Step.{Step}
 use Rattle.liberty_meaning.specs.declared.scope.Named.{Named}
-use Rattle.liberty_meaning.specs.declared.pair.Pair.{Pair}
 use Rattle.liberty_meaning.specs.declared.function.Program.{Program}
 use Rattle.liberty_meaning.specs.declared.refusal.MeaningRefusal.{MeaningRefusal}
 use Rattle.liberty_meaning.specs.declared.refusal.MeaningRefusal.TheVariants as refusal
@@ -19,8 +12,7 @@ use Rattle.liberty_meaning.specs.Words.{words_of, bare}
 use Rattle.liberty_meaning.specs.Function.{Function, constant, value_of, SpellsText, IsBadAt}
 use Rattle.liberty_meaning.specs.Compiling.{value_at}
 use Rattle.liberty_meaning.specs.Texts.{name_value, unknown_among, steps_value}
-use Rattle.liberty_meaning.specs.Names.{names_of, nodes_of, place_from, is_direction_output, is_direction_internal}
-use Rattle.liberty_meaning.specs.Pairs.{pair, clocked_pair, latched_pair, controlled_pair}
+use Rattle.liberty_meaning.specs.Names.{place_from, is_direction_output}
 
 -- a number as a u32 tells it
 abbrev pub told : ℕ → ℕ

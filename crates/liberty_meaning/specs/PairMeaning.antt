@@ -1,7 +1,6 @@
 -- What a flip-flop and a latch mean (Liberty User Guide, "ff Group", "latch Group").
-use Rattle.std.specs.Prelude.{◌≡◌, ℕ, Bool, true, false, List, [], ◌∷◌, codes, Option, Some, None, Result, Ok, Err}
+use Rattle.std.specs.Prelude.{◌≡◌, ℕ, List, [], ◌∷◌, codes, Option, Some, None, Result, Ok, Err}
 use Rattle.tern_core.specs.declared.tern.Tern.{Tern}
-use Rattle.tern_core.specs.declared.tern.Tern.TheVariants as tern
 use Rattle.liberty_source.specs.declared.Both.{Both}
 use Rattle.liberty_source.specs.declared.FfText.{FfText}
 use Rattle.liberty_source.specs.declared.LatchText.{LatchText}
@@ -16,7 +15,7 @@ use Rattle.liberty_meaning.specs.Function.{Function, value_of}
 use Rattle.liberty_meaning.specs.Compiling.{value_at}
 use Rattle.liberty_meaning.specs.Texts.{name_value, steps_value}
 use Rattle.liberty_meaning.specs.Pairs.{pair, clocked_pair, latched_pair, controlled_pair, both_at}
-use Rattle.liberty_meaning.specs.Meaning.{IsFunctionOf, Computes, RefusesOptional, UnlessMemory}
+use Rattle.liberty_meaning.specs.Meaning.{IsFunctionOf, RefusesOptional, UnlessMemory}
 
 -- the two first values of a state
 abbrev pub pair_of : List Tern → Pair

@@ -1,5 +1,5 @@
 -- The two state variables of a flip-flop and of a latch (Liberty User Guide, "ff Group", "latch Group"), as cases on values.
-use Rattle.std.specs.Prelude.{◌≡◌, ℕ, Bool, true, false, List, [], ◌∷◌, ◌++◌, slice_index_or}
+use Rattle.std.specs.Prelude.{ℕ, Bool, true, false, List, [], ◌∷◌, ◌++◌, slice_index_or}
 use Rattle.tern_core.specs.declared.tern.Tern.{Tern}
 use Rattle.tern_core.specs.declared.tern.Tern.TheVariants.{Zero, One, Unknown}
 use Rattle.tern_core.specs.Values.{not_of, common_of, common_of_all}

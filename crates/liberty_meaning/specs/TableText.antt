@@ -1,5 +1,5 @@
 -- The text of a state table: words between blanks, in rows between commas.
-use Rattle.std.specs.Prelude.{ℕ, Bool, true, false, ◌==◌, if◌then◌else◌, List, [], ◌∷◌, ◌++◌}
+use Rattle.std.specs.Prelude.{ℕ, ◌==◌, if◌then◌else◌, List, [], ◌∷◌, ◌++◌}
 use Rattle.liberty_meaning.specs.declared.table_text.RowWords.{RowWords}
 use Rattle.liberty_meaning.specs.Words.{is_blank}
 

@@ -1,4 +1,3 @@
-use Rattle.std.proofs.Common.{◌≡◌, ℕ, ◌<◌, ◌≤◌}
 use Rattle.liberty_meaning.specs.Behaviour.{pair_value}
 use Rattle.liberty_meaning.specs.Compiling.{value_at}
 use Rattle.liberty_meaning.proofs.Writing.{IsWritten}

@@ -1,4 +1,4 @@
-use Rattle.std.proofs.Common.{◌≡◌, ◌<◌, ◌≤◌, ◌∙◌, ap, arith, length}
+use Rattle.std.proofs.Common.{◌<◌, ◌≤◌, ◌∙◌, ap, arith, length}
 use Rattle.std.specs.Option.{option_copied}
 use Rattle.liberty_meaning.specs.Behaviour.{row_value}
 use Rattle.liberty_meaning.proofs.Writing.{written_more}

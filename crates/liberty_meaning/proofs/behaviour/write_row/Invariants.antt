@@ -1,4 +1,3 @@
-use Rattle.std.proofs.Common.{◌≡◌, ℕ, ◌<◌, ◌≤◌}
 use Rattle.std.specs.Option.{option_copied}
 use Rattle.liberty_meaning.specs.Behaviour.{row_value}
 use Rattle.liberty_meaning.specs.Compiling.{value_at}

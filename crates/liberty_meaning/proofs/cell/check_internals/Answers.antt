@@ -1,4 +1,4 @@
-use Rattle.std.proofs.Common.{◌≡◌, ◌∙◌, ap, rules}
+use Rattle.std.proofs.Common.{◌∙◌, ap, rules}
 use Rattle.liberty_meaning.specs.declared.refusal.MeaningRefusal.TheVariants as refusal
 use Rattle.liberty_meaning.proofs.CellLemmas.{internal_known, internal_found, internals_known}
 use Rattle.liberty_meaning.proofs.cell.check_internals.Goals as goal

@@ -1,4 +1,4 @@
-use Rattle.std.proofs.Common.{◌≡◌, ◌∙◌, ◌++◌, sym, ap, arith, true, false, rules}
+use Rattle.std.proofs.Common.{◌≡◌, ◌∙◌, ◌++◌, sym, ap, arith, true, false}
 use Rattle.std.proofs.lemmas.List.{append-nil}
 use Rattle.liberty_meaning.specs.Names.{is_direction_input}
 use Rattle.liberty_meaning.proofs.Naming.{input_here, no_input_here, inputs_end, one_on}

@@ -1,4 +1,4 @@
-use Rattle.std.proofs.Common.{◌≡◌, ◌∙◌, ◌++◌, sym, ap, arith, true, false, rules}
+use Rattle.std.proofs.Common.{◌≡◌, ◌∙◌, ◌++◌, sym, ap, true, false}
 use Rattle.std.proofs.lemmas.List.{append-nil}
 use Rattle.liberty_meaning.specs.Names.{is_direction_internal}
 use Rattle.liberty_meaning.proofs.Naming.{internal_here, no_internal_here, internals_end, one_on}

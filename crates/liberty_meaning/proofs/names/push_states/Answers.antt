@@ -1,4 +1,4 @@
-use Rattle.std.proofs.Common.{◌≡◌, ◌∙◌, ◌++◌, sym, ap, arith, true, false, rules}
+use Rattle.std.proofs.Common.{◌∙◌, ◌++◌, sym, ap}
 use Rattle.std.proofs.lemmas.List.{append-nil}
 use Rattle.liberty_meaning.proofs.Naming.{state_here, states_end, one_on}
 use Rattle.liberty_meaning.proofs.names.push_states.Goals as goal

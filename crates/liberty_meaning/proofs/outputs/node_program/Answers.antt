@@ -1,6 +1,4 @@
-use Rattle.std.proofs.Common.{◌≡◌, ◌∙◌, sym, None, Some, Ok}
-use Rattle.liberty_meaning.specs.Names.{place_from}
-use Rattle.liberty_meaning.specs.Meaning.{IsNodeAnswer}
+use Rattle.std.proofs.Common.{sym}
 use Rattle.liberty_meaning.proofs.OutputLemmas.{none_value, some_value}
 use Rattle.liberty_meaning.proofs.outputs.node_program.Goals as goal
 

@@ -1,7 +1,6 @@
-use Rattle.std.proofs.Common.{◌≡◌, ◌∙◌, sym, refl, None, Some, Ok}
+use Rattle.std.proofs.Common.{refl}
 use Rattle.tern_core.specs.declared.tern.Tern.TheVariants as tern
 use Rattle.liberty_meaning.specs.Function.{constant}
-use Rattle.liberty_meaning.specs.Meaning.{IsFunctionOf}
 use Rattle.liberty_meaning.proofs.OutputLemmas.{zero_value}
 use Rattle.liberty_meaning.proofs.outputs.optional_program.Goals as goal
 

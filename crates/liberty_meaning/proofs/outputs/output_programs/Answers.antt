@@ -1,6 +1,6 @@
-use Rattle.std.proofs.Common.{◌≡◌, ◌∙◌, sym, true, false, rules, Err}
+use Rattle.std.proofs.Common.{◌≡◌, true, false, rules, Err}
 use Rattle.liberty_meaning.specs.Names.{is_direction_output}
-use Rattle.liberty_meaning.proofs.OutputLemmas.{outputs_none, outputs_step, outputs_pass, outputs_whole, outputs_refused}
+use Rattle.liberty_meaning.proofs.OutputLemmas.{outputs_none, outputs_step, outputs_pass, outputs_refused}
 use Rattle.liberty_meaning.proofs.outputs.output_programs.Goals.{then-is_output+in_ok-output_program+in_ok-push, else-is_output}
 use Rattle.liberty_meaning.proofs.outputs.output_programs.Goals as goal
 

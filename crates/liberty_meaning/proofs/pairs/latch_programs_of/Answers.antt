@@ -1,4 +1,4 @@
-use Rattle.std.proofs.Common.{◌≡◌, ◌∙◌, sym, true, false, codes, rules, Err}
+use Rattle.std.proofs.Common.{◌≡◌, rules, Err}
 use Rattle.liberty_meaning.specs.declared.pairs.Kind.TheVariants.{Latched}
 use Rattle.liberty_meaning.proofs.PairLemmas.{refused_here, refused_later, pair_of_programs, good}
 use Rattle.liberty_meaning.proofs.pairs.latch_programs_of.Goals as goal

@@ -1,4 +1,4 @@
-use Rattle.std.proofs.Common.{◌≡◌, ◌∙◌, refl, sym, ap, arith, length, ◌≤◌}
+use Rattle.std.proofs.Common.{◌∙◌, refl, sym, ap, arith}
 use Rattle.liberty_meaning.specs.Compiling.{last_value}
 use Rattle.liberty_meaning.proofs.Running.{first_values-none, fits_here, leads_here, fits_end, leads_end}
 use Rattle.liberty_meaning.proofs.program.run.Goals as goal

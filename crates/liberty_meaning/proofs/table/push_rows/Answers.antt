@@ -1,4 +1,4 @@
-use Rattle.std.proofs.Common.{◌≡◌, ◌∙◌, sym, Some, None, rules}
+use Rattle.std.proofs.Common.{◌∙◌, sym}
 use Rattle.liberty_meaning.proofs.TableLemmas.{pushes_none, pushes_half, pushes_one, pushes_two}
 use Rattle.liberty_meaning.proofs.table.push_rows.Goals as goal
 

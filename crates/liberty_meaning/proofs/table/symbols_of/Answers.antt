@@ -1,6 +1,6 @@
-use Rattle.std.proofs.Common.{◌≡◌, ◌∙◌, sym, Some, None, rules}
+use Rattle.std.proofs.Common.{◌≡◌, sym, Some, None}
 use Rattle.liberty_meaning.specs.Symbols.{symbol_of}
-use Rattle.liberty_meaning.proofs.TableLemmas.{none_before, symbol_here, no_symbol_here, symbols_end}
+use Rattle.liberty_meaning.proofs.TableLemmas.{symbol_here, no_symbol_here, symbols_end}
 use Rattle.liberty_meaning.proofs.table.symbols_of.Goals as goal
 
 pub returns-in-None : goal.returns-in-None

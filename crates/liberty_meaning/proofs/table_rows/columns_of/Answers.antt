@@ -1,4 +1,4 @@
-use Rattle.std.proofs.Common.{◌≡◌, ◌∙◌, sym, rules, Some, None}
+use Rattle.std.proofs.Common.{◌≡◌, sym, Some, None}
 use Rattle.liberty_meaning.specs.Compiling.{source_among}
 use Rattle.liberty_meaning.proofs.RowLemmas.{columns_none, columns_step, columns_bad}
 use Rattle.liberty_meaning.proofs.table_rows.columns_of.Goals as goal

@@ -1,4 +1,3 @@
-use Rattle.std.proofs.Common.{◌≡◌, ◌∙◌, sym, rules}
 use Rattle.liberty_meaning.proofs.RowLemmas.{made_none, rows_step, rows_bad}
 use Rattle.liberty_meaning.proofs.table_rows.made_rows.Goals as goal
 

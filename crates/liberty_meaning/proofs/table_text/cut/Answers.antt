@@ -1,4 +1,3 @@
-use Rattle.std.proofs.Common.{◌≡◌, ap}
 use Rattle.liberty_meaning.proofs.TableLemmas.{cut_row}
 use Rattle.liberty_meaning.proofs.table_text.cut.Goals as goal
 

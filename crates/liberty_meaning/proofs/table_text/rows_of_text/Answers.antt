@@ -1,4 +1,3 @@
-use Rattle.std.proofs.Common.{◌≡◌, ◌∙◌, ◌++◌, [], refl, sym, ap, drop}
 use Rattle.liberty_meaning.proofs.TableLemmas.{begin_rows, whole_rows}
 use Rattle.liberty_meaning.proofs.table_text.rows_of_text.Goals as goal
 

@@ -1,4 +1,4 @@
-use Rattle.std.proofs.Common.{◌≡◌, ◌∙◌, sym, arith, rules}
+use Rattle.std.proofs.Common.{◌∙◌, rules}
 use Rattle.liberty_meaning.proofs.TextLemmas.{known_here, found_here, known_end}
 use Rattle.liberty_meaning.proofs.texts.first_unknown.Goals as goal
 

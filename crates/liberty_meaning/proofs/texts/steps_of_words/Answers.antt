@@ -1,5 +1,5 @@
-use Rattle.std.proofs.Common.{◌≡◌, ◌∙◌, sym, arith, ap, rules, None, Some}
-use Rattle.liberty_meaning.specs.Compiling.{Standing, taken, sources_of, standing_of, finished}
+use Rattle.std.proofs.Common.{◌≡◌, ◌∙◌, sym, arith, ap, None, Some}
+use Rattle.liberty_meaning.specs.Compiling.{Standing, taken, sources_of, standing_of}
 use Rattle.liberty_meaning.proofs.Accepts.{after_none, inversions_most}
 use Rattle.liberty_meaning.proofs.TextLemmas.{stuck_here, more_here, whole_after, early_here, made_here, is_else, is_then}
 use Rattle.liberty_meaning.proofs.texts.steps_of_words.Goals as goal

@@ -1,4 +1,4 @@
-use Rattle.std.proofs.Common.{◌≡◌, ◌≤◌, take}
+use Rattle.std.proofs.Common.{◌≤◌, take}
 use Rattle.liberty_meaning.specs.Compiling.{sources_of, standing_of}
 use Rattle.liberty_meaning.specs.Words.{bare}
 use Rattle.liberty_meaning.proofs.Accepts.{IsAfter}

@@ -1,4 +1,4 @@
-use Rattle.std.proofs.Common.{◌≡◌, ◌∙◌, ◌++◌, [], refl, sym, ap, arith, length, ◌≤◌, drop, false}
+use Rattle.std.proofs.Common.{◌≡◌, ap, arith, length, false}
 use Rattle.liberty_meaning.specs.Words.{goes_on}
 use Rattle.liberty_meaning.proofs.Cutting.{one_apart, begun_short, joins_apart}
 use Rattle.liberty_meaning.proofs.words.cut.Goals as goal

@@ -1,4 +1,4 @@
-use Rattle.std.proofs.Common.{◌≡◌, ◌∙◌, ◌++◌, [], refl, sym, ap, arith, length, ◌≤◌, drop}
+use Rattle.std.proofs.Common.{ap, arith, length}
 use Rattle.liberty_meaning.proofs.Cutting.{begin_cut, whole_cut}
 use Rattle.liberty_meaning.proofs.words.words_of_text.Goals as goal
 

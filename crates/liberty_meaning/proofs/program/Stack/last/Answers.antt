@@ -1,5 +1,4 @@
-use Rattle.std.proofs.Common.{refl, sym, ap}
-use Rattle.liberty_meaning.specs.Compiling.{last_value}
+use Rattle.std.proofs.Common.{refl}
 use Rattle.liberty_meaning.proofs.Running.{first_values-one}
 use Rattle.liberty_meaning.proofs.program.Stack.last.Goals as goal
 

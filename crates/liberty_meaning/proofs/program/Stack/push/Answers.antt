@@ -1,4 +1,4 @@
-use Rattle.std.proofs.Common.{arith, ◌≡◌, ◌<◌, length}
+use Rattle.std.proofs.Common.{arith}
 use Rattle.liberty_meaning.proofs.Running.{first_values-push}
 use Rattle.liberty_meaning.proofs.program.Stack.push.Goals as goal
 

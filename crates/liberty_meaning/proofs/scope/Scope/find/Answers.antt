@@ -1,4 +1,4 @@
-use Rattle.std.proofs.Common.{◌≡◌, ◌∙◌, ◌<◌, refl, sym, ap, arith, length, ◌≤◌, bytes_eq, true, false, get_or}
+use Rattle.std.proofs.Common.{◌≡◌, ◌∙◌, sym, ap, arith, length, bytes_eq, true, false}
 use Rattle.liberty_meaning.proofs.Running.{found_at, not_at, among_end}
 use Rattle.liberty_meaning.proofs.scope.Scope.find.Goals as goal
 

@@ -1,4 +1,4 @@
-use Rattle.std.proofs.Common.{◌≡◌, ◌<◌, ◌≤◌, ◌∙◌, sym, ap, arith, true, false, length}
+use Rattle.std.proofs.Common.{◌≡◌, ◌∙◌, sym, ap, arith, true, false, length}
 use Rattle.liberty_meaning.specs.Table.{matches_row}
 use Rattle.liberty_meaning.proofs.TableLemmas.{first_here, not_first_here, no_first}
 use Rattle.liberty_meaning.proofs.table.Table.first_matching.Goals as goal
