@@ -8,25 +8,15 @@ program=crates/library_count/out/library_count
 file=$(mktemp)
 trap 'rm -f "$file"' EXIT
 python3 bench/make_liberty.py "${1:-100}" "$file"
-python3 - "$program" "$file" <<'P'
-import shutil, subprocess, sys, time
+PYTHONPATH=bench python3 - "$program" "$file" <<'P'
+import shutil, sys
+from fastest import fastest, printed
 
 program, path = sys.argv[1:]
-
-def best(command, times=3):
-    results = []
-    for _ in range(times):
-        begin = time.perf_counter()
-        subprocess.run(command, check=True, stdout=subprocess.DEVNULL)
-        results.append(time.perf_counter() - begin)
-    return min(results)
-
-open(path, "rb").read()
-sha, read = best(["sha256sum", path]), best([program, path])
-print(subprocess.run([program, path], check=True, capture_output=True, text=True).stdout.strip())
-print(f"sha256sum {sha:.3f} s")
-print(f"reading {read:.3f} s, ratio {sha / read:.2f}")
+print(printed([program, path]))
+sha, read = fastest(["sha256sum", path], 3), fastest([program, path], 3)
+print(f"sha256sum {sha:.3f} s, reading {read:.3f} s, ratio {sha / read:.2f}")
 if shutil.which("yosys"):
-    yosys = best(["yosys", "-q", "-p", f"read_liberty {path}"], 1)
+    yosys = fastest(["yosys", "-q", "-p", f"read_liberty {path}"], 1)
     print(f"yosys read_liberty {yosys:.3f} s, ratio {yosys / read:.2f}")
 P
