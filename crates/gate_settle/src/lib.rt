@@ -1,0 +1,8 @@
+//! Networks of gates and user-defined primitives (IEEE 1364-2005, clauses 7 and 8): the one settled
+//! assignment of values to the nets, and what it becomes when the input pins change.
+#![tactic(auto)]
+
+mod gate;
+mod settle;
+
+pub use gate::{Fold, Function, Gate, Operand};
