@@ -3,6 +3,7 @@
 #![tactic(auto)]
 
 mod gate;
+mod order;
 mod settle;
 
 pub use gate::{Fold, Function, Gate, Operand};
