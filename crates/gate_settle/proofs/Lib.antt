@@ -1,3 +1,4 @@
 pub mod Settling
-pub mod Moving
 pub mod Sorting
+pub mod Loops
+pub mod Moving

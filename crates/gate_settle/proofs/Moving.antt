@@ -1,6 +1,6 @@
 -- One pass over gates in an order of dependence makes the move.
 use Rattle.std.proofs.Common.{◌≡◌, ℕ, ◌<◌, ◌≢◌, Bool, true, false, List, [], ◌∷◌, length, map, refl, sym, ◌∙◌, ap, subst, arith}
-use Rattle.std.specs.Prelude.{◌==◌, ◌&&◌, ◌||◌, not, nat_lt, slice_set}
+use Rattle.std.specs.Prelude.{◌==◌, ◌&&◌, ◌||◌, not, nat_lt, slice_set, sum_by}
 use Rattle.std.proofs.lemmas.List.{get_or-set_same, get_or-set_other}
 use Rattle.std.proofs.Math.ListN.{length-set}
 use Rattle.std.proofs.lemmas.Grind.{common_steps}
@@ -13,6 +13,7 @@ use Rattle.gate_settle.specs.declared.gate.Gate.{Gate}
 use Rattle.gate_settle.specs.Gates.{value_at, operand_value, function_value, gate_value, levels_of, is_among, is_driven}
 use Rattle.gate_settle.specs.Order.{is_known, marked, all_known, all_unknown, is_ordered}
 use Rattle.gate_settle.specs.Settled.{AreSettled, written, values_after, next_state, IsStateMoved, AreStatesMoved, states_after_gate, states_after, nets_after, has_state, is_held, is_own, have_own_states}
+use Rattle.gate_settle.proofs.Loops.{one_if, some_gate}
 use Rattle.gate_settle.proofs.Settling.{both, neither, not_known, eq_self, same_of, apart_of, marked_long, written_long, same_levels, after_other, known_apart}
 
 below : (a b : ℕ) → nat_lt a b ≡ true → a < b
@@ -107,3 +108,14 @@ module _ (tables : List Table) (old : List Tern) where
         states_moved (marked g.outputs true known) count gates next first moved k.1 i.1 (c ∙ sym (gate_long nets states g g.function)) (λ n e.
             gate_other nets states g g.function n (held_apart count gates g.function n i.0 e) ∙ h n (second_true (has_state g.function n) (is_held gates n) e)),
       )
+
+
+-- ---- states of their own, in another order of the gates
+
+holders : List Gate → ℕ → ℕ
+holders gates k = sum_by (λ g. one_if (has_state g.function k)) gates
+
+held_is_some : (gates : List Gate) (k : ℕ) → is_held gates k ≡ some_gate (λ g. has_state g.function k) gates
+unfolding some_gate
+held_is_some [] k = refl
+held_is_some (g ∷ gates) k = ap (λ v. has_state g.function k || v) (held_is_some gates k)

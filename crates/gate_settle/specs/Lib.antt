@@ -1,3 +1,4 @@
 pub mod Gates
 pub mod Order
 pub mod Settled
+pub mod Network

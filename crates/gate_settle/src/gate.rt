@@ -38,3 +38,13 @@ pub struct Gate {
     /// The nets that it drives, by their places.
     pub outputs: Items<usize>,
 }
+
+/// What a net has from outside the gates.
+#[derive(Clone, Copy, Debug)]
+pub enum Given {
+    /// The value of an input pin, by its place.
+    Pin(usize),
+    /// The value of a supply.
+    Fixed(Tern),
+    Floating,
+}

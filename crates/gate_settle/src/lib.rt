@@ -3,7 +3,10 @@
 #![tactic(auto)]
 
 mod gate;
+pub mod laws;
+mod network;
 mod order;
 mod settle;
 
-pub use gate::{Fold, Function, Gate, Operand};
+pub use gate::{Fold, Function, Gate, Given, Operand};
+pub use network::GateNet;

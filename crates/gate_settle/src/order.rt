@@ -1,6 +1,6 @@
 //! Gates in an order of dependence.
 
-ghost use Rattle.std.specs.Prelude.{◌≡◌, ◌+◌, ℕ, List, Bool, true, sum_by, length, IfOk, OnOk};
+ghost use Rattle.std.specs.Prelude.{◌≡◌, ◌+◌, ◌≤◌, ℕ, List, Bool, true, sum_by, length, IfOk, OnOk};
 ghost use Rattle.gate_settle.specs.declared.gate.Gate.{Gate};
 ghost use Rattle.gate_settle.specs.Order.{is_operand_known, all_known, all_unknown, is_ready, none_ready, marked, is_ordered, known_after, known_at_first};
 
@@ -76,6 +76,7 @@ fn pass(
 ) -> Result<Vec<Gate>, NoMemory>
     ensures gates { (f : Gate → ℕ) → IfOk result (λ still. sum_by f sorted.new.items + sum_by f still.items ≡ sum_by f sorted.old.items + sum_by f waiting.items) }
     ensures count { IfOk result (λ still. length sorted.new.items + length still.items ≡ length sorted.old.items + length waiting.items) }
+    ensures fewer { IfOk result (λ still. length still.items ≤ length waiting.items) }
     ensures ordered { (first : List Bool) → is_ordered first sorted.old.items ≡ true → known.old ≡ known_after sorted.old.items true first → OnOk result (is_ordered first sorted.new.items ≡ true) }
     ensures known { (first : List Bool) → known.old ≡ known_after sorted.old.items true first → OnOk result (known.new ≡ known_after sorted.new.items true first) }
     ensures stuck { IfOk result (λ still. length sorted.new.items ≡ length sorted.old.items → none_ready known.new still.items ≡ true) }
