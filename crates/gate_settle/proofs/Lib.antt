@@ -2,3 +2,4 @@ pub mod Settling
 pub mod Sorting
 pub mod Loops
 pub mod Moving
+pub mod Counting

@@ -192,11 +192,11 @@ ordered_no_loop known (g ∷ gates) o k h =
 
 
 -- the test of some gate
-pub some_gate : (Gate → Bool) → List Gate → Bool
+unfoldable pub some_gate : (Gate → Bool) → List Gate → Bool
 some_gate p [] = false
 some_gate p (g ∷ gates) = p g || some_gate p gates
 
-some_sum : (p : Gate → Bool) (gates : List Gate) → some_gate p gates ≡ true → 0 < sum_by (λ g. one_if (p g)) gates
+pub some_sum : (p : Gate → Bool) (gates : List Gate) → some_gate p gates ≡ true → 0 < sum_by (λ g. one_if (p g)) gates
 unfolding some_gate
 some_sum p [] h = absurd (cc)
 some_sum p (g ∷ gates) h =
@@ -206,7 +206,7 @@ some_sum p (g ∷ gates) h =
       | inr y ↦ let i = some_sum p gates y in omega (arith, c, i)
     ]
 
-sum_some : (p : Gate → Bool) (gates : List Gate) → 0 < sum_by (λ g. one_if (p g)) gates → some_gate p gates ≡ true
+pub sum_some : (p : Gate → Bool) (gates : List Gate) → 0 < sum_by (λ g. one_if (p g)) gates → some_gate p gates ≡ true
 unfolding some_gate
 sum_some p [] h = absurd (omega arith)
 sum_some p (g ∷ gates) h =
@@ -221,7 +221,7 @@ unfolding some_gate
 fed_is_some [] a b = refl
 fed_is_some (g ∷ gates) a b = ap (λ v. is_among g.outputs a && is_input g.inputs b || v) (fed_is_some gates a b)
 
-driven_is_some : (gates : List Gate) (k : ℕ) → is_driven gates k ≡ some_gate (λ g. is_among g.outputs k) gates
+pub driven_is_some : (gates : List Gate) (k : ℕ) → is_driven gates k ≡ some_gate (λ g. is_among g.outputs k) gates
 unfolding some_gate
 driven_is_some [] k = refl
 driven_is_some (g ∷ gates) k = ap (λ v. is_among g.outputs k || v) (driven_is_some gates k)
@@ -233,7 +233,7 @@ part_some p a b all h s =
     let e = h (λ g. one_if (p g)) in
     sum_some p all (omega (arith, i, e))
 
-sum_none : (p : Gate → Bool) (gates : List Gate) → some_gate p gates ≡ false → sum_by (λ g. one_if (p g)) gates ≡ 0
+pub sum_none : (p : Gate → Bool) (gates : List Gate) → some_gate p gates ≡ false → sum_by (λ g. one_if (p g)) gates ≡ 0
 unfolding some_gate
 sum_none p [] h = refl
 sum_none p (g ∷ gates) h =
@@ -438,3 +438,6 @@ pub driven_same : (sorted all : List Gate) → ((f : Gate → ℕ) → sum_by f 
 driven_same sorted all h k =
     let p : Gate → Bool = λ g. is_among g.outputs k in
     driven_is_some all k ∙ same_some p all sorted (λ f. sym (h f)) ∙ sym (driven_is_some sorted k)
+
+pub first_long : (nets : ℕ) (gates : List Gate) → length (known_at_first nets gates) ≡ nets
+first_long nets gates = after_length gates false (replicate nets true) ∙ replicate_long nets

@@ -1,5 +1,5 @@
 -- One pass over gates in an order of dependence makes the move.
-use Rattle.std.proofs.Common.{◌≡◌, ℕ, ◌<◌, ◌≢◌, Bool, true, false, List, [], ◌∷◌, length, map, refl, sym, ◌∙◌, ap, subst, arith}
+use Rattle.std.proofs.Common.{◌≡◌, ℕ, ◌<◌, ◌≤◌, ◌≢◌, Bool, true, false, List, [], ◌∷◌, length, map, refl, sym, ◌∙◌, ap, subst, arith}
 use Rattle.std.specs.Prelude.{◌==◌, ◌&&◌, ◌||◌, not, nat_lt, slice_set, sum_by}
 use Rattle.std.proofs.lemmas.List.{get_or-set_same, get_or-set_other}
 use Rattle.std.proofs.Math.ListN.{length-set}
@@ -13,8 +13,10 @@ use Rattle.gate_settle.specs.declared.gate.Gate.{Gate}
 use Rattle.gate_settle.specs.Gates.{value_at, operand_value, function_value, gate_value, levels_of, is_among, is_driven}
 use Rattle.gate_settle.specs.Order.{is_known, marked, all_known, all_unknown, is_ordered}
 use Rattle.gate_settle.specs.Settled.{AreSettled, written, values_after, next_state, IsStateMoved, AreStatesMoved, states_after_gate, states_after, nets_after, has_state, is_held, is_own, have_own_states}
-use Rattle.gate_settle.proofs.Loops.{one_if, some_gate}
-use Rattle.gate_settle.proofs.Settling.{both, neither, not_known, eq_self, same_of, apart_of, marked_long, written_long, same_levels, after_other, known_apart}
+use Rattle.gate_settle.proofs.Loops.{one_if, some_gate, some_sum, sum_none, same_some}
+use Rattle.gate_settle.proofs.Sorting.{each}
+use Rattle.std.proofs.lemmas.List.Sums.{sum_by-cons}
+use Rattle.gate_settle.proofs.Settling.{both, neither, none, not_known, eq_self, same_of, apart_of, marked_long, written_long, same_levels, after_other, known_apart}
 
 below : (a b : ℕ) → nat_lt a b ≡ true → a < b
 below a b h = grind (arith, common_steps, h)
@@ -26,6 +28,10 @@ first_true false b h = absurd (cc)
 second_true : (a b : Bool) → b ≡ true → (a || b) ≡ true
 second_true true b h = refl
 second_true false b h = h
+
+not_not : (a : Bool) → not a ≡ false → a ≡ true
+not_not true h = refl
+not_not false h = absurd (cc)
 
 module _ (tables : List Table) (old : List Tern) where
   gate_long : (nets states : List Tern) (g : Gate) (f : Function) → length (states_after_gate tables old nets states g f) ≡ length states
@@ -112,10 +118,83 @@ module _ (tables : List Table) (old : List Tern) where
 
 -- ---- states of their own, in another order of the gates
 
-holders : List Gate → ℕ → ℕ
+unfoldable holders : List Gate → ℕ → ℕ
 holders gates k = sum_by (λ g. one_if (has_state g.function k)) gates
 
 held_is_some : (gates : List Gate) (k : ℕ) → is_held gates k ≡ some_gate (λ g. has_state g.function k) gates
 unfolding some_gate
 held_is_some [] k = refl
 held_is_some (g ∷ gates) k = ap (λ v. has_state g.function k || v) (held_is_some gates k)
+
+none_held : (gates : List Gate) (k : ℕ) → is_held gates k ≡ false → holders gates k ≡ 0
+unfolding holders
+none_held gates k h = sum_none (λ g. has_state g.function k) gates (sym (held_is_some gates k) ∙ h)
+
+zero_held : (gates : List Gate) (k : ℕ) → holders gates k ≡ 0 → is_held gates k ≡ false
+unfolding holders
+zero_held gates k z = elim (is_held gates k) as (λ v. is_held gates k ≡ v → is_held gates k ≡ false) [
+  | true ↦ λ e. let p = some_sum (λ g. has_state g.function k) gates (sym (held_is_some gates k) ∙ e) in absurd (omega (arith, p, z))
+  | false ↦ λ e. e
+] refl
+
+-- a gate's state is one of so many
+within_count : ℕ → Function → Bool
+within_count count (State table k) = nat_lt k count
+within_count count (Logic fold inverted) = true
+within_count count (FromTable table) = true
+
+own_within : (count : ℕ) (gates : List Gate) (f : Function) → is_own count gates f ≡ true → within_count count f ≡ true
+unfolding within_count
+own_within count gates (State table k) h = (both (nat_lt k count) (not (is_held gates k)) h).0
+own_within count gates (Logic fold inverted) h = refl
+own_within count gates (FromTable table) h = refl
+
+own_held : (count : ℕ) (gates : List Gate) (f : Function) (k : ℕ) → is_own count gates f ≡ true → has_state f k ≡ true → is_held gates k ≡ false
+own_held count gates (State table n) k h e = subst (λ m. is_held gates m ≡ false) (same_of n k e) (not_known (is_held gates n) (both (nat_lt n count) (not (is_held gates n)) h).1)
+own_held count gates (Logic fold inverted) k h e = absurd (cc)
+own_held count gates (FromTable table) k h e = absurd (cc)
+
+own_one : (count : ℕ) (gates : List Gate) → have_own_states count gates ≡ true → (k : ℕ) → holders gates k ≤ 1
+unfolding holders
+own_one count [] o k = omega arith
+own_one count (g ∷ gates) o k =
+    let i = both (is_own count gates g.function) (have_own_states count gates) o in
+    let c = sum_by-cons (λ x. one_if (has_state x.function k)) g gates in
+    let rest = own_one count gates i.1 k in
+    elim (has_state g.function k) as (λ v. has_state g.function k ≡ v → holders (g ∷ gates) k ≤ 1) [
+      | true ↦ λ e. let one : one_if (has_state g.function k) ≡ 1 = ap one_if e in let z = none_held gates k (own_held count gates g.function k i.0 e) in omega (arith, c, one, z)
+      | false ↦ λ e. let none : one_if (has_state g.function k) ≡ 0 = ap one_if e in omega (arith, c, none, rest)
+    ] refl
+
+own_all : (count : ℕ) (gates : List Gate) → have_own_states count gates ≡ true → some_gate (λ g. not (within_count count g.function)) gates ≡ false
+unfolding some_gate
+own_all count [] o = refl
+own_all count (g ∷ gates) o =
+    let i = both (is_own count gates g.function) (have_own_states count gates) o in
+    none (not (within_count count g.function)) (some_gate (λ x. not (within_count count x.function)) gates) (ap not (own_within count gates g.function i.0)) (own_all count gates i.1)
+
+owned : (count : ℕ) (gates : List Gate) (f : Function) → within_count count f ≡ true → ((k : ℕ) → has_state f k ≡ true → is_held gates k ≡ false) → is_own count gates f ≡ true
+unfolding within_count
+owned count gates (State table k) w h = each (nat_lt k count) (not (is_held gates k)) w (ap not (h k (eq_self k)))
+owned count gates (Logic fold inverted) w h = refl
+owned count gates (FromTable table) w h = refl
+
+own_of : (count : ℕ) (gates : List Gate) → ((k : ℕ) → holders gates k ≤ 1) → some_gate (λ g. not (within_count count g.function)) gates ≡ false → have_own_states count gates ≡ true
+unfolding holders some_gate
+own_of count [] h w = refl
+own_of count (g ∷ gates) h w =
+    let j = neither (not (within_count count g.function)) (some_gate (λ x. not (within_count count x.function)) gates) w in
+    each (is_own count gates g.function) (have_own_states count gates)
+    (owned count gates g.function (not_not (within_count count g.function) j.0) (λ k e.
+        let c = sum_by-cons (λ x. one_if (has_state x.function k)) g gates in
+        let one : one_if (has_state g.function k) ≡ 1 = ap one_if e in
+        let most = h k in
+        zero_held gates k (omega (arith, c, one, most))))
+    (own_of count gates (λ k. let c = sum_by-cons (λ x. one_if (has_state x.function k)) g gates in let most = h k in omega (arith, c, most)) j.1)
+
+-- in another order each state still has one gate
+pub own_arranged : (count : ℕ) (sorted all : List Gate) → ((f : Gate → ℕ) → sum_by f sorted ≡ sum_by f all) → have_own_states count all ≡ true → have_own_states count sorted ≡ true
+unfolding holders
+own_arranged count sorted all h o =
+    own_of count sorted (λ k. let e = h (λ g. one_if (has_state g.function k)) in let m = own_one count all o k in omega (arith, e, m))
+    (same_some (λ g. not (within_count count g.function)) sorted all h ∙ own_all count all o)

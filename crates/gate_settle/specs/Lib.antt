@@ -2,3 +2,6 @@ pub mod Gates
 pub mod Order
 pub mod Settled
 pub mod Network
+pub mod Claims
+pub mod Reach
+pub mod Marking

@@ -3,7 +3,9 @@ ghost use Rattle.gate_settle.specs.Network.{HasOneSettled};
 
 use crate::network::GateNet;
 
-/// For given pins and states there is just one settled assignment.
-pub fn one_settled(_net: &GateNet)
-    ensures { HasOneSettled _net.now }
-{}
+/// For given pins and states a network has just one settled assignment.
+pub fn one_settled(net: &GateNet)
+    ensures { HasOneSettled net.now }
+{
+    let _nets = net.given.len();
+}

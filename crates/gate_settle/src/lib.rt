@@ -2,10 +2,12 @@
 //! assignment of values to the nets, and what it becomes when the input pins change.
 #![tactic(auto)]
 
+mod claims;
 mod gate;
 pub mod laws;
 mod network;
 mod order;
+mod reach;
 mod settle;
 
 pub use gate::{Fold, Function, Gate, Given, Operand};
