@@ -3,3 +3,4 @@ pub mod Sorting
 pub mod Loops
 pub mod Moving
 pub mod Counting
+pub mod Reaching

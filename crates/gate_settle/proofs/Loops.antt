@@ -11,15 +11,15 @@ use Rattle.gate_settle.specs.Gates.{is_among, is_driven}
 use Rattle.gate_settle.specs.Order.{is_known, marked, is_operand_known, all_known, all_unknown, is_ready, none_ready, is_ordered, known_after, known_at_first, is_input, is_fed_by, DependsOn, directly, through, times, drivers}
 use Rattle.gate_settle.proofs.Settling.{both, neither, none, not_known, eq_self, same_of, apart_of, at_place, known_apart, marked_keeps, among_known, marked_long}
 
-first_true : (a b : Bool) → a ≡ true → (a || b) ≡ true
+pub first_true : (a b : Bool) → a ≡ true → (a || b) ≡ true
 first_true true b h = refl
 first_true false b h = absurd (cc)
 
-second_true : (a b : Bool) → b ≡ true → (a || b) ≡ true
+pub second_true : (a b : Bool) → b ≡ true → (a || b) ≡ true
 second_true true b h = refl
 second_true false b h = h
 
-either : (a b : Bool) → (a || b) ≡ true → (a ≡ true) ⊎ (b ≡ true)
+pub either : (a b : Bool) → (a || b) ≡ true → (a ≡ true) ⊎ (b ≡ true)
 either true b h = inl refl
 either false b h = inr h
 
@@ -142,7 +142,7 @@ module _ (gates : List Gate) (bad : List Bool) where
 
 -- ---- an order of dependence has no loop
 
-fed_driven : (gates : List Gate) (a b : ℕ) → is_fed_by gates a b ≡ true → is_driven gates a ≡ true
+pub fed_driven : (gates : List Gate) (a b : ℕ) → is_fed_by gates a b ≡ true → is_driven gates a ≡ true
 fed_driven [] a b h = absurd (cc)
 fed_driven (g ∷ gates) a b h = elim (either (is_among g.outputs a && is_input g.inputs b) (is_fed_by gates a b) h) [
   | inl x ↦ first_true (is_among g.outputs a) (is_driven gates a) (both (is_among g.outputs a) (is_input g.inputs b) x).0
@@ -153,7 +153,7 @@ pub depends_driven : (gates : List Gate) (a b : ℕ) → DependsOn gates a b →
 depends_driven gates a b (directly f) = fed_driven gates a b f
 depends_driven gates a c (through {b = b} f h) = fed_driven gates a b f
 
-input_known : (known : List Bool) (inputs : List Operand) (k : ℕ) → all_known known inputs ≡ true → is_input inputs k ≡ true → is_known known k ≡ true
+pub input_known : (known : List Bool) (inputs : List Operand) (k : ℕ) → all_known known inputs ≡ true → is_input inputs k ≡ true → is_known known k ≡ true
 input_known known [] k a i = absurd (cc)
 input_known known (Net n ∷ inputs) k a i =
     let p = both (is_known known n) (all_known known inputs) a in
@@ -393,8 +393,9 @@ replicate_long (suc n) = let i : length (replicate n true) ≡ n = replicate_lon
 all_driven : (sorted waiting all : List Gate) → ((f : Gate → ℕ) → sum_by f sorted + sum_by f waiting ≡ sum_by f all) → (k : ℕ) → is_driven waiting k ≡ true → is_driven all k ≡ true
 all_driven sorted waiting all h k d = driven_is_some all k ∙ part_some (λ g. is_among g.outputs k) sorted waiting all h (sym (driven_is_some waiting k) ∙ d)
 
-pub stuck_loop : (nets : ℕ) (all sorted waiting : List Gate) → AreStuck nets all sorted waiting → (k : ℕ) → is_driven waiting k ≡ true → (n : ℕ) × (n < nets) × DependsOn all n n
-stuck_loop nets all sorted waiting s k d =
+pub stuck_loop : (nets : ℕ) (all sorted : List Gate) (g : Gate) (others : List Gate) → AreStuck nets all sorted (g ∷ others) → (n : ℕ) × (n < nets) × DependsOn all n n
+stuck_loop nets all sorted g others s =
+    let waiting : List Gate = g ∷ others in
     let first : List Bool = known_at_first nets all in
     let bad : List Bool = known_after sorted true first in
     let unknown : (o : ℕ) → is_driven waiting o ≡ true → is_known bad o ≡ false = λ o w.
@@ -414,9 +415,10 @@ stuck_loop nets all sorted waiting s k d =
           | false ↦ λ e. e
         ] refl in
         driven_is_some waiting o ∙ whole_some (λ g. is_among g.outputs o) sorted waiting all s.parted (sym (driven_is_some all o) ∙ driven o u) (sym (driven_is_some sorted o) ∙ free) in
+    let u = waits_for bad g (not_known (is_ready bad g) (both (not (is_ready bad g)) (none_ready bad others) s.stuck).0) (λ o a. unknown o (first_true (is_among g.outputs o) (is_driven others o) a)) in
     let r = goes_round all bad (λ a u.
         let f = fed_by_unknown bad waiting a s.stuck unknown (waits a u) in
-        (f.0, fed_is_some all a f.0 ∙ part_some (λ g. is_among g.outputs a && is_input g.inputs f.0) sorted waiting all s.parted (sym (fed_is_some waiting a f.0) ∙ f.1), f.2)) k (unknown k d) in
+        (f.0, fed_is_some all a f.0 ∙ part_some (λ g. is_among g.outputs a && is_input g.inputs f.0) sorted waiting all s.parted (sym (fed_is_some waiting a f.0) ∙ f.1), f.2)) u.0 u.2 in
     (r.0, s.in_range r.0 (driven r.0 r.1), r.2)
 
 
@@ -441,3 +443,32 @@ driven_same sorted all h k =
 
 pub first_long : (nets : ℕ) (gates : List Gate) → length (known_at_first nets gates) ≡ nets
 first_long nets gates = after_length gates false (replicate nets true) ∙ replicate_long nets
+
+
+among_times : (os : List ℕ) (k : ℕ) → is_among os k ≡ true → 0 < times os k
+among_times [] k h = absurd (cc)
+among_times (o ∷ os) k h = elim (either (o == k) (is_among os k) h) [
+  | inl e ↦ let t : times (o ∷ os) k ≡ 1 + times os k = ap (λ v. (if v then 1 else 0) + times os k) e in omega (arith, t)
+  | inr a ↦ let i = among_times os k a in omega (arith, i)
+]
+
+pub driven_count : (gates : List Gate) (k : ℕ) → is_driven gates k ≡ true → 0 < drivers gates k
+driven_count [] k h = absurd (cc)
+driven_count (g ∷ gates) k h =
+    let c = sum_by-cons (λ x. times x.outputs k) g gates in
+    elim (either (is_among g.outputs k) (is_driven gates k) h) [
+      | inl x ↦ let i = among_times g.outputs k x in omega (arith, c, i)
+      | inr y ↦ let i = driven_count gates k y in omega (arith, c, i)
+    ]
+
+-- where a net has one driver at most, one part alone drives it
+pub apart_by_count : (sorted waiting all : List Gate) (k : ℕ) → ((f : Gate → ℕ) → sum_by f sorted + sum_by f waiting ≡ sum_by f all) → drivers all k ≤ 1 → is_driven waiting k ≡ true → is_driven sorted k ≡ false
+apart_by_count sorted waiting all k h one w =
+    elim (is_driven sorted k) as (λ v. is_driven sorted k ≡ v → is_driven sorted k ≡ false) [
+      | true ↦ λ e.
+          let a = driven_count sorted k e in
+          let b = driven_count waiting k w in
+          let s = h (λ g. times g.outputs k) in
+          absurd (omega (arith, a, b, s, one))
+      | false ↦ λ e. e
+    ] refl

@@ -5,3 +5,4 @@ pub mod Network
 pub mod Claims
 pub mod Reach
 pub mod Marking
+pub mod Connecting

@@ -3,6 +3,7 @@
 #![tactic(auto)]
 
 mod claims;
+mod connect;
 mod gate;
 pub mod laws;
 mod network;
@@ -10,5 +11,6 @@ mod order;
 mod reach;
 mod settle;
 
+pub use connect::{ConnectRefusal, connect};
 pub use gate::{Fold, Function, Gate, Given, Operand};
 pub use network::GateNet;

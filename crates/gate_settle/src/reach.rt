@@ -44,3 +44,64 @@ fn sweep(root: usize, gates: &[Gate], marks: &mut [bool])
         }
     }
 }
+
+/// How many nets aren't marked.
+fn unmarked(marks: &[bool]) -> usize
+    ensures count { result ≡ unmarked marks.now }
+    ensures most { result ≤ length marks.now }
+{
+    let mut count = 0;
+    for mark in marks {
+        if !*mark {
+            count += 1;
+        }
+    }
+    count
+}
+
+/// Marks on, until all that the root depends on is marked.
+fn spread(root: usize, gates: &[Gate], marks: &mut [bool])
+    requires { AreWithin gates.now (length marks.old) }
+    ensures sound { IsSound gates.now (length marks.old) root marks.old → IsSound gates.now (length marks.old) root marks.new }
+    ensures closed { is_closed root marks.new gates.now ≡ true }
+{
+    loop {
+        let before = unmarked(marks);
+        sweep(root, gates, marks);
+        if unmarked(marks) == before {
+            break;
+        }
+    }
+}
+
+fn depends_on_itself(
+    alloc: Global,
+    net: usize,
+    nets: usize,
+    gates: &[Gate],
+) -> Result<bool, NoMemory>
+    requires within { AreWithin gates.now nets }
+    requires net { net < nets }
+    ensures { IfOk result (λ r. MatchBool r (DependsOn gates.now net net) (DependsOn gates.now net net → ⊥)) }
+{
+    let mut marks = vec![in alloc; false; nets]?;
+    spread(net, gates, marks.as_mut_slice());
+    Ok(marks[net])
+}
+
+/// The first net that depends on itself.
+pub(crate) fn first_loop(
+    alloc: Global,
+    nets: usize,
+    gates: &[Gate],
+) -> Result<Option<usize>, NoMemory>
+    requires { AreWithin gates.now nets }
+    ensures { IfOk result (λ r. MatchOption r ((k : ℕ) → k < nets → DependsOn gates.now k k → ⊥) (λ n. (n < nets) × DependsOn gates.now n n × ((k : ℕ) → k < n → DependsOn gates.now k k → ⊥))) }
+{
+    for net in 0..nets {
+        if depends_on_itself(alloc, net, nets, gates)? {
+            return Ok(Some(net));
+        }
+    }
+    Ok(None)
+}
