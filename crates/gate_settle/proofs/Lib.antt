@@ -4,3 +4,4 @@ pub mod Loops
 pub mod Moving
 pub mod Counting
 pub mod Reaching
+pub mod Joining

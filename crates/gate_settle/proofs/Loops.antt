@@ -390,7 +390,7 @@ pub replicate_long : (n : ℕ) → length (replicate n true) ≡ n
 replicate_long zero = refl
 replicate_long (suc n) = let i : length (replicate n true) ≡ n = replicate_long n in omega (arith, i)
 
-all_driven : (sorted waiting all : List Gate) → ((f : Gate → ℕ) → sum_by f sorted + sum_by f waiting ≡ sum_by f all) → (k : ℕ) → is_driven waiting k ≡ true → is_driven all k ≡ true
+pub all_driven : (sorted waiting all : List Gate) → ((f : Gate → ℕ) → sum_by f sorted + sum_by f waiting ≡ sum_by f all) → (k : ℕ) → is_driven waiting k ≡ true → is_driven all k ≡ true
 all_driven sorted waiting all h k d = driven_is_some all k ∙ part_some (λ g. is_among g.outputs k) sorted waiting all h (sym (driven_is_some waiting k) ∙ d)
 
 pub stuck_loop : (nets : ℕ) (all sorted : List Gate) (g : Gate) (others : List Gate) → AreStuck nets all sorted (g ∷ others) → (n : ℕ) × (n < nets) × DependsOn all n n

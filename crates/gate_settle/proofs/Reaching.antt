@@ -1,6 +1,6 @@
 -- Marks that stand still mark just what the root depends on.
-use Rattle.std.proofs.Common.{◌≡◌, ℕ, suc, zero, ◌+◌, ◌<◌, ◌≤◌, ◌⊎◌, inl, inr, Bool, true, false, List, [], ◌∷◌, length, refl, sym, ◌∙◌, ap, subst, arith}
-use Rattle.std.specs.Prelude.{◌==◌, ◌&&◌, ◌||◌, not, slice_set, sum_by, replicate, if◌then◌else◌}
+use Rattle.std.proofs.Common.{◌≡◌, ℕ, suc, zero, ◌+◌, ◌<◌, ◌≤◌, ◌⊎◌, inl, inr, Bool, true, false, List, [], ◌∷◌, length, get_or, refl, sym, ◌∙◌, ap, subst, arith}
+use Rattle.std.specs.Prelude.{◌==◌, ◌&&◌, ◌||◌, not, slice_set, sum_by, replicate, MatchBool, if◌then◌else◌}
 use Rattle.std.proofs.lemmas.List.Sums.{sum_by-cons}
 use Rattle.std.proofs.Math.ListN.{length-set}
 use Rattle.gate_settle.specs.declared.gate.Operand.{Operand}
@@ -170,3 +170,14 @@ depends_marked root marks gates a d c h (through {b = b} f r) = depends_marked r
 
 pub none_sound : (gates : List Gate) (nets root : ℕ) → IsSound gates nets root (replicate nets false)
 none_sound gates nets root b lt h = let c : is_known (replicate nets false) b ≡ false = no_mark nets b lt in absurd (cc)
+
+pub false_long : (n : ℕ) → length (replicate n false) ≡ n
+false_long zero = refl
+false_long (suc n) = let i : length (replicate n false) ≡ n = false_long n in omega (arith, i)
+
+pub marked_so : (net : ℕ) (marks : List Bool) (gates : List Gate) (nets : ℕ) → net < nets → IsSound gates nets net marks → is_closed net marks gates ≡ true → MatchBool (get_or marks net true) (DependsOn gates net net) (DependsOn gates net net → ⊥)
+marked_so net marks gates nets lt sound closed =
+    elim (get_or marks net true) as (λ v. is_known marks net ≡ v → MatchBool v (DependsOn gates net net) (DependsOn gates net net → ⊥)) [
+      | true ↦ λ e. sound net lt e
+      | false ↦ λ e. λ d. let k : is_known marks net ≡ true = depends_marked net marks gates net net closed (inl refl) d in absurd (cc)
+    ] refl

@@ -3,8 +3,8 @@ use Rattle.std.specs.Prelude.{◌≡◌, ℕ, ◌<◌, ◌≤◌, List, length}
 use Rattle.udp_table.specs.Table.{Table}
 use Rattle.gate_settle.specs.declared.gate.Gate.{Gate}
 use Rattle.gate_settle.specs.declared.gate.Given.{Given}
-use Rattle.gate_settle.specs.declared.connect.ConnectRefusal.{ConnectRefusal}
-use Rattle.gate_settle.specs.declared.connect.ConnectRefusal.TheVariants.{NoMemory, TwoDrivers, Loop}
+use Rattle.gate_settle.specs.declared.connecting.ConnectRefusal.{ConnectRefusal}
+use Rattle.gate_settle.specs.declared.connecting.ConnectRefusal.TheVariants.{NoMemory, TwoDrivers, Loop}
 use Rattle.gate_settle.specs.Order.{DependsOn, IsArrangementOf}
 use Rattle.gate_settle.specs.Claims.{claims_on}
 use Rattle.gate_settle.specs.Network.{Network}

@@ -3,7 +3,7 @@
 #![tactic(auto)]
 
 mod claims;
-mod connect;
+mod connecting;
 mod gate;
 pub mod laws;
 mod network;
@@ -11,6 +11,6 @@ mod order;
 mod reach;
 mod settle;
 
-pub use connect::{ConnectRefusal, connect};
+pub use connecting::{ConnectRefusal, connect};
 pub use gate::{Fold, Function, Gate, Given, Operand};
 pub use network::GateNet;

@@ -74,6 +74,17 @@ fn spread(root: usize, gates: &[Gate], marks: &mut [bool])
     }
 }
 
+/// Whether the net depends on itself, where the marks at first are sound.
+fn loops(net: usize, gates: &[Gate], marks: &mut [bool]) -> bool
+    requires within { AreWithin gates.now (length marks.old) }
+    requires net { net < length marks.old }
+    requires sound { IsSound gates.now (length marks.old) net marks.old }
+    ensures { MatchBool result (DependsOn gates.now net net) (DependsOn gates.now net net → ⊥) }
+{
+    spread(net, gates, marks);
+    marks[net]
+}
+
 fn depends_on_itself(
     alloc: Global,
     net: usize,
@@ -85,8 +96,7 @@ fn depends_on_itself(
     ensures { IfOk result (λ r. MatchBool r (DependsOn gates.now net net) (DependsOn gates.now net net → ⊥)) }
 {
     let mut marks = vec![in alloc; false; nets]?;
-    spread(net, gates, marks.as_mut_slice());
-    Ok(marks[net])
+    Ok(loops(net, gates, marks.as_mut_slice()))
 }
 
 /// The first net that depends on itself.

@@ -26,6 +26,11 @@ pub enum ConnectRefusal {
 }
 
 impl From<NoMemory> for ConnectRefusal {
+    ghost use Rattle.std.specs.Prelude.{◌≡◌};
+    ghost use Rattle.gate_settle.specs.declared.connecting.ConnectRefusal.TheVariants.{NoMemory as refused};
+
+    ghost from_gives = { λ _ e. e ≡ refused };
+
     fn from(_: NoMemory) -> ConnectRefusal {
         ConnectRefusal::NoMemory
     }
