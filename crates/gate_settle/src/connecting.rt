@@ -1,10 +1,10 @@
 //! From gates in the order of the text to a network.
 
-ghost use Rattle.std.specs.Prelude.{◌≡◌, ◌+◌, ℕ, true, sum_by, length, IfOk, IfErr};
+ghost use Rattle.std.specs.Prelude.{◌≡◌, ◌+◌, ℕ, true, sum_by, length, IfOk, IfErr, OnOk};
 ghost use Rattle.gate_settle.specs.declared.gate.Gate.{Gate};
 ghost use Rattle.gate_settle.specs.Settled.{have_own_states};
 ghost use Rattle.gate_settle.specs.Reach.{AreWithin};
-ghost use Rattle.gate_settle.specs.Connecting.{IsConnected, IsNotConnected};
+ghost use Rattle.gate_settle.specs.Connecting.{IsConnected, IsNotConnected, HaveOneDriver};
 
 use crate::claims::contested;
 use crate::gate::{Gate, Given};
@@ -33,6 +33,17 @@ impl From<NoMemory> for ConnectRefusal {
 
     fn from(_: NoMemory) -> ConnectRefusal {
         ConnectRefusal::NoMemory
+    }
+}
+
+/// Refuses a net that is driven twice, or is driven and has a value from outside.
+fn check_drivers(alloc: Global, given: &[Given], gates: &[Gate]) -> Result<(), ConnectRefusal>
+    ensures ok { OnOk result (HaveOneDriver given.now gates.now (length given.now)) }
+    ensures refused { IfErr result (IsNotConnected given.now gates.now) }
+{
+    match contested(alloc, given, gates)? {
+        Some(net) => Err(ConnectRefusal::TwoDrivers(net)),
+        None => Ok(()),
     }
 }
 
@@ -65,9 +76,7 @@ pub fn connect(
     ensures refused { IfErr result (IsNotConnected given gates.items) }
 {
     let nets = given.len();
-    if let Some(net) = contested(alloc, given.as_slice(), &gates)? {
-        return Err(ConnectRefusal::TwoDrivers(net));
-    }
+    check_drivers(alloc, given.as_slice(), &gates)?;
     let arranged = arrange(alloc, nets, gates)?;
     if arranged.waiting.len() == 0 {
         let gates = Items::from_vec(arranged.sorted);
