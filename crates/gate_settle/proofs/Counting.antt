@@ -1,6 +1,6 @@
 -- Claims counted up to two.
-use Rattle.std.proofs.Common.{◌≡◌, ℕ, suc, zero, ◌+◌, ◌<◌, ◌≤◌, ◌≢◌, Bool, true, false, List, [], ◌∷◌, length, map, get_or, min, refl, sym, ◌∙◌, ap, subst, arith}
-use Rattle.std.specs.Prelude.{◌==◌, slice_set, slice_index, sum_by, nat_lt, if◌then◌else◌}
+use Rattle.std.proofs.Common.{◌≡◌, ℕ, suc, zero, ◌+◌, ◌<◌, ◌≤◌, Bool, true, false, List, [], ◌∷◌, length, map, get_or, min, refl, sym, ◌∙◌, ap, subst, arith}
+use Rattle.std.specs.Prelude.{◌==◌, slice_set, slice_index, nat_lt, if◌then◌else◌}
 use Rattle.std.proofs.lemmas.List.{get_or-set_same, get_or-set_other}
 use Rattle.std.proofs.lemmas.List.Sums.{sum_by-cons}
 use Rattle.std.proofs.lemmas.Grind.{common_steps}
@@ -62,7 +62,7 @@ first_at (x ∷ given) zero lt = refl
 first_at (x ∷ given) (suc k) lt = first_at given k (omega arith)
 
 small : (x : Given) → claim_of x ≤ 1
-small x = elim x as (λ y. claim_of y ≤ 1) [ | Pin k ↦ omega arith | Fixed v ↦ omega arith | Floating ↦ omega arith ]
+small x = elim x as (λ y. claim_of y ≤ 1) [ Pin k ↦ omega arith | Fixed v ↦ omega arith | Floating ↦ omega arith ]
 
 map_long : (given : List Given) → length (map claim_of given) ≡ length given
 map_long [] = refl

@@ -1,13 +1,10 @@
 -- What arranged gates have in common with the gates as they were given.
-use Rattle.std.proofs.Common.{◌≡◌, ℕ, ◌+◌, ◌<◌, ◌≤◌, true, List, [], ◌∷◌, length, sym, ◌∙◌, ap, subst, refl, get_or, arith}
+use Rattle.std.proofs.Common.{◌≡◌, ℕ, ◌+◌, ◌<◌, true, List, [], ◌∷◌, length, sym, ◌∙◌, subst, arith}
 use Rattle.std.specs.Prelude.{sum_by}
 use Rattle.gate_settle.specs.declared.gate.Gate.{Gate}
 use Rattle.gate_settle.specs.declared.gate.Given.{Given}
-use Rattle.gate_settle.specs.declared.gate.Given.TheVariants.{Floating}
-use Rattle.gate_settle.specs.Gates.{is_driven}
-use Rattle.gate_settle.specs.Order.{is_ordered, known_at_first, known_after, none_ready, DependsOn, times, drivers}
+use Rattle.gate_settle.specs.Order.{is_ordered, known_at_first, known_after, none_ready}
 use Rattle.gate_settle.specs.Reach.{AreWithin}
-use Rattle.gate_settle.specs.Claims.{claim_of, claims_on}
 use Rattle.gate_settle.specs.Connecting.{HaveOneDriver, HaveNoLoop}
 use Rattle.gate_settle.proofs.Loops.{same_at_first, driven_same, depends_same, ordered_no_loop, stuck_loop, apart_by_count, all_driven}
 

@@ -1,15 +1,15 @@
 -- Where no gate is ready, some net depends on itself; in an order of dependence none does.
-use Rattle.std.proofs.Common.{◌≡◌, ℕ, suc, zero, ◌+◌, ◌<◌, ◌≤◌, ◌≢◌, ◌⊎◌, inl, inr, Bool, true, false, List, [], ◌∷◌, length, refl, sym, ◌∙◌, ap, subst, arith}
+use Rattle.std.proofs.Common.{◌≡◌, ℕ, suc, zero, ◌+◌, ◌<◌, ◌≤◌, ◌⊎◌, inl, inr, Bool, true, false, List, [], ◌∷◌, length, refl, sym, ◌∙◌, ap, subst, arith}
 use Rattle.std.specs.Prelude.{◌==◌, ◌&&◌, ◌||◌, not, slice_set, sum_by, replicate, if◌then◌else◌}
 use Rattle.std.proofs.lemmas.List.{get_or-set_same, get_or-set_other, ext_get_or}
-use Rattle.std.proofs.lemmas.List.Sums.{sum_by-cons, sum_by-set}
+use Rattle.std.proofs.lemmas.List.Sums.{sum_by-cons}
 use Rattle.std.proofs.Math.ListN.{length-set}
 use Rattle.gate_settle.specs.declared.gate.Operand.{Operand}
 use Rattle.gate_settle.specs.declared.gate.Operand.TheVariants.{Net, Constant}
 use Rattle.gate_settle.specs.declared.gate.Gate.{Gate}
 use Rattle.gate_settle.specs.Gates.{is_among, is_driven}
-use Rattle.gate_settle.specs.Order.{is_known, marked, is_operand_known, all_known, all_unknown, is_ready, none_ready, is_ordered, known_after, known_at_first, is_input, is_fed_by, DependsOn, directly, through, times, drivers}
-use Rattle.gate_settle.proofs.Settling.{both, neither, none, not_known, eq_self, same_of, apart_of, at_place, known_apart, marked_keeps, among_known, marked_long}
+use Rattle.gate_settle.specs.Order.{is_known, marked, all_known, all_unknown, is_ready, none_ready, is_ordered, known_after, known_at_first, is_input, is_fed_by, DependsOn, directly, through, times, drivers}
+use Rattle.gate_settle.proofs.Settling.{both, neither, not_known, eq_self, same_of, apart_of, known_apart, marked_keeps, among_known, marked_long}
 
 pub first_true : (a b : Bool) → a ≡ true → (a || b) ≡ true
 first_true true b h = refl
@@ -79,7 +79,7 @@ module _ (gates : List Gate) (bad : List Bool) where
   set_seen (x ∷ seen) zero zero u h = inl refl
   set_seen (x ∷ seen) zero (suc s) u h = inr h
   set_seen (x ∷ seen) (suc b) zero u h = inr h
-  set_seen (x ∷ seen) (suc b) (suc s) u h = elim (set_seen seen b s u h) [ | inl e ↦ inl (ap suc e) | inr k ↦ inr k ]
+  set_seen (x ∷ seen) (suc b) (suc s) u h = elim (set_seen seen b s u h) [ inl e ↦ inl (ap suc e) | inr k ↦ inr k ]
 
   leads_on : (seen : List Bool) (a b : ℕ) → is_fed_by gates a b ≡ true → is_known seen b ≡ false → Leads seen a → Leads (slice_set seen b true) b
   unfolding Leads
@@ -98,13 +98,13 @@ module _ (gates : List Gate) (bad : List Bool) where
   closes : (seen : List Bool) (a b : ℕ) → is_fed_by gates a b ≡ true → is_known bad b ≡ false → is_known seen b ≡ true → Leads seen a → Round
   unfolding Leads Round
   closes seen a b f u e leads = (
-      b,
-      u,
-      elim (leads b e u) [
-        | inl same ↦ directly (subst (λ n. is_fed_by gates n b ≡ true) (sym same) f)
-        | inr far ↦ depends_trans gates far (directly f)
-      ],
-    )
+    b,
+    u,
+    elim (leads b e u) [
+      | inl same ↦ directly (subst (λ n. is_fed_by gates n b ≡ true) (sym same) f)
+      | inr far ↦ depends_trans gates far (directly f)
+    ],
+  )
 
   round : (fuel : ℕ) (seen : List Bool) (a : ℕ) → off seen ≡ fuel → Goes → is_known bad a ≡ false → Leads seen a → Round
   unfolding Goes
@@ -138,7 +138,7 @@ module _ (gates : List Gate) (bad : List Bool) where
   unfolding Goes Leads Round
   goes_round goes a u =
       round (off (replicate (length bad) false)) (replicate (length bad) false) a refl goes u (λ s h v.
-          let c : is_known (replicate (length bad) false) s ≡ false = all_off (length bad) s (within bad s v) in absurd (cc))
+      let c : is_known (replicate (length bad) false) s ≡ false = all_off (length bad) s (within bad s v) in absurd (cc))
 
 -- ---- an order of dependence has no loop
 
@@ -189,7 +189,6 @@ ordered_no_loop known (g ∷ gates) o k h =
     ordered_no_loop (marked g.outputs true known) gates j.1 k (down known g gates o k k (depends_driven (g ∷ gates) k k h) h)
 
 -- ---- sums over gates
-
 
 -- the test of some gate
 unfoldable pub some_gate : (Gate → Bool) → List Gate → Bool
@@ -399,28 +398,27 @@ stuck_loop nets all sorted g others s =
     let first : List Bool = known_at_first nets all in
     let bad : List Bool = known_after sorted true first in
     let unknown : (o : ℕ) → is_driven waiting o ≡ true → is_known bad o ≡ false = λ o w.
-        let lt : o < nets = s.in_range o (all_driven sorted waiting all s.parted o w) in
-        let long : length (replicate nets true) ≡ nets = replicate_long nets in
-        after_apart sorted true first o (s.apart o w) ∙ after_off all (replicate nets true) o (omega arith) (all_driven sorted waiting all s.parted o w) in
+    let lt : o < nets = s.in_range o (all_driven sorted waiting all s.parted o w) in
+    let long : length (replicate nets true) ≡ nets = replicate_long nets in
+    after_apart sorted true first o (s.apart o w) ∙ after_off all (replicate nets true) o (omega arith) (all_driven sorted waiting all s.parted o w) in
     let driven : (o : ℕ) → is_known bad o ≡ false → is_driven all o ≡ true = λ o u.
-        elim (is_driven all o) as (λ v. is_driven all o ≡ v → is_driven all o ≡ true) [
-          | true ↦ λ e. e
-          | false ↦ λ e.
-              let t : is_known first o ≡ true = after_apart all false (replicate nets true) o e ∙ all_on nets o in
-              let c : is_known bad o ≡ true = after_keeps sorted first o t in absurd (cc)
-        ] refl in
+    elim (is_driven all o) as (λ v. is_driven all o ≡ v → is_driven all o ≡ true) [
+      | true ↦ λ e. e
+      | false ↦ λ e.
+          let t : is_known first o ≡ true = after_apart all false (replicate nets true) o e ∙ all_on nets o in
+          let c : is_known bad o ≡ true = after_keeps sorted first o t in absurd (cc)
+    ] refl in
     let waits : (o : ℕ) → is_known bad o ≡ false → is_driven waiting o ≡ true = λ o u.
-        let free : is_driven sorted o ≡ false = elim (is_driven sorted o) as (λ v. is_driven sorted o ≡ v → is_driven sorted o ≡ false) [
-          | true ↦ λ e. let c : is_known bad o ≡ true = after_driven sorted first o e in absurd (cc)
-          | false ↦ λ e. e
-        ] refl in
-        driven_is_some waiting o ∙ whole_some (λ g. is_among g.outputs o) sorted waiting all s.parted (sym (driven_is_some all o) ∙ driven o u) (sym (driven_is_some sorted o) ∙ free) in
+    let free : is_driven sorted o ≡ false = elim (is_driven sorted o) as (λ v. is_driven sorted o ≡ v → is_driven sorted o ≡ false) [
+      | true ↦ λ e. let c : is_known bad o ≡ true = after_driven sorted first o e in absurd (cc)
+      | false ↦ λ e. e
+    ] refl in
+    driven_is_some waiting o ∙ whole_some (λ g. is_among g.outputs o) sorted waiting all s.parted (sym (driven_is_some all o) ∙ driven o u) (sym (driven_is_some sorted o) ∙ free) in
     let u = waits_for bad g (not_known (is_ready bad g) (both (not (is_ready bad g)) (none_ready bad others) s.stuck).0) (λ o a. unknown o (first_true (is_among g.outputs o) (is_driven others o) a)) in
     let r = goes_round all bad (λ a u.
-        let f = fed_by_unknown bad waiting a s.stuck unknown (waits a u) in
-        (f.0, fed_is_some all a f.0 ∙ part_some (λ g. is_among g.outputs a && is_input g.inputs f.0) sorted waiting all s.parted (sym (fed_is_some waiting a f.0) ∙ f.1), f.2)) u.0 u.2 in
+    let f = fed_by_unknown bad waiting a s.stuck unknown (waits a u) in
+    (f.0, fed_is_some all a f.0 ∙ part_some (λ g. is_among g.outputs a && is_input g.inputs f.0) sorted waiting all s.parted (sym (fed_is_some waiting a f.0) ∙ f.1), f.2)) u.0 u.2 in
     (r.0, s.in_range r.0 (driven r.0 r.1), r.2)
-
 
 -- gates in another order leave the same nets without a driver
 pub same_at_first : (nets : ℕ) (a b : List Gate) → ((k : ℕ) → is_driven a k ≡ is_driven b k) → known_at_first nets a ≡ known_at_first nets b
@@ -428,12 +426,12 @@ same_at_first nets a b h =
     let la : length (known_at_first nets a) ≡ nets = after_length a false (replicate nets true) ∙ replicate_long nets in
     let lb : length (known_at_first nets b) ≡ nets = after_length b false (replicate nets true) ∙ replicate_long nets in
     ext_get_or true (known_at_first nets a) (known_at_first nets b) (la ∙ sym lb) (λ k lt.
-        let long : length (replicate nets true) ≡ nets = replicate_long nets in
-        let in_range : k < length (replicate nets true) = omega arith in
-        elim (is_driven b k) as (λ v. is_driven b k ≡ v → is_known (known_at_first nets a) k ≡ is_known (known_at_first nets b) k) [
-          | true ↦ λ e. after_off a (replicate nets true) k in_range (h k ∙ e) ∙ sym (after_off b (replicate nets true) k in_range e)
-          | false ↦ λ e. after_apart a false (replicate nets true) k (h k ∙ e) ∙ sym (after_apart b false (replicate nets true) k e)
-        ] refl)
+    let long : length (replicate nets true) ≡ nets = replicate_long nets in
+    let in_range : k < length (replicate nets true) = omega arith in
+    elim (is_driven b k) as (λ v. is_driven b k ≡ v → is_known (known_at_first nets a) k ≡ is_known (known_at_first nets b) k) [
+      | true ↦ λ e. after_off a (replicate nets true) k in_range (h k ∙ e) ∙ sym (after_off b (replicate nets true) k in_range e)
+      | false ↦ λ e. after_apart a false (replicate nets true) k (h k ∙ e) ∙ sym (after_apart b false (replicate nets true) k e)
+    ] refl)
 
 -- where nothing waits, the sorted gates are all
 pub driven_same : (sorted all : List Gate) → ((f : Gate → ℕ) → sum_by f sorted ≡ sum_by f all) → (k : ℕ) → is_driven all k ≡ is_driven sorted k
@@ -443,7 +441,6 @@ driven_same sorted all h k =
 
 pub first_long : (nets : ℕ) (gates : List Gate) → length (known_at_first nets gates) ≡ nets
 first_long nets gates = after_length gates false (replicate nets true) ∙ replicate_long nets
-
 
 among_times : (os : List ℕ) (k : ℕ) → is_among os k ≡ true → 0 < times os k
 among_times [] k h = absurd (cc)

@@ -1,6 +1,6 @@
 -- One pass over gates in an order of dependence makes the move.
-use Rattle.std.proofs.Common.{◌≡◌, ℕ, ◌<◌, ◌≤◌, ◌≢◌, Bool, true, false, List, [], ◌∷◌, length, map, refl, sym, ◌∙◌, ap, subst, arith}
-use Rattle.std.specs.Prelude.{◌==◌, ◌&&◌, ◌||◌, not, nat_lt, slice_set, sum_by}
+use Rattle.std.proofs.Common.{◌≡◌, ℕ, ◌<◌, ◌≤◌, Bool, true, false, List, [], ◌∷◌, length, refl, sym, ◌∙◌, ap, subst, arith}
+use Rattle.std.specs.Prelude.{◌==◌, ◌&&◌, ◌||◌, not, nat_lt, sum_by}
 use Rattle.std.proofs.lemmas.List.{get_or-set_same, get_or-set_other}
 use Rattle.std.proofs.Math.ListN.{length-set}
 use Rattle.std.proofs.lemmas.Grind.{common_steps}
@@ -10,13 +10,13 @@ use Rattle.udp_table.specs.Table.{Table}
 use Rattle.gate_settle.specs.declared.gate.Function.{Function}
 use Rattle.gate_settle.specs.declared.gate.Function.TheVariants.{Logic, Table as FromTable, State}
 use Rattle.gate_settle.specs.declared.gate.Gate.{Gate}
-use Rattle.gate_settle.specs.Gates.{value_at, operand_value, function_value, gate_value, levels_of, is_among, is_driven}
-use Rattle.gate_settle.specs.Order.{is_known, marked, all_known, all_unknown, is_ordered}
-use Rattle.gate_settle.specs.Settled.{AreSettled, written, values_after, next_state, IsStateMoved, AreStatesMoved, states_after_gate, states_after, nets_after, has_state, is_held, is_own, have_own_states}
+use Rattle.gate_settle.specs.Gates.{value_at, function_value, gate_value, levels_of}
+use Rattle.gate_settle.specs.Order.{marked, all_known, all_unknown, is_ordered}
+use Rattle.gate_settle.specs.Settled.{written, values_after, next_state, IsStateMoved, AreStatesMoved, states_after_gate, states_after, nets_after, has_state, is_held, is_own, have_own_states}
 use Rattle.gate_settle.proofs.Loops.{one_if, some_gate, some_sum, sum_none, same_some}
 use Rattle.gate_settle.proofs.Sorting.{each}
 use Rattle.std.proofs.lemmas.List.Sums.{sum_by-cons}
-use Rattle.gate_settle.proofs.Settling.{both, neither, none, not_known, eq_self, same_of, apart_of, marked_long, written_long, same_levels, after_other, known_apart}
+use Rattle.gate_settle.proofs.Settling.{both, neither, none, not_known, eq_self, same_of, apart_of, same_levels, after_other, known_apart}
 
 below : (a b : ℕ) → nat_lt a b ≡ true → a < b
 below a b h = grind (arith, common_steps, h)
@@ -81,7 +81,7 @@ module _ (tables : List Table) (old : List Tern) where
       let lt : k < length states = subst (λ n. k < n) c (below k count i.0) in
       let e : value_at states k ≡ value_at first k = before k (eq_self k) in
       after k (not_known (is_held gates k) i.1) ∙ get_or-set_same states k (next_state tables table (levels_of old g) (levels_of nets g) (value_at states k)) Unknown lt
-          ∙ ap (λ ls. next_state tables table (levels_of old g) ls (value_at states k)) (sym same) ∙ ap (λ v. next_state tables table (levels_of old g) (levels_of new g) v) e
+      ∙ ap (λ ls. next_state tables table (levels_of old g) ls (value_at states k)) (sym same) ∙ ap (λ v. next_state tables table (levels_of old g) (levels_of new g) v) e
   one_moved count gates nets first states last new g (Logic fold inverted) o c same before after = tt
   one_moved count gates nets first states last new g (FromTable table) o c same before after = tt
 
@@ -114,7 +114,6 @@ module _ (tables : List Table) (old : List Tern) where
         states_moved (marked g.outputs true known) count gates next first moved k.1 i.1 (c ∙ sym (gate_long nets states g g.function)) (λ n e.
             gate_other nets states g g.function n (held_apart count gates g.function n i.0 e) ∙ h n (second_true (has_state g.function n) (is_held gates n) e)),
       )
-
 
 -- ---- states of their own, in another order of the gates
 
@@ -186,10 +185,10 @@ own_of count (g ∷ gates) h w =
     let j = neither (not (within_count count g.function)) (some_gate (λ x. not (within_count count x.function)) gates) w in
     each (is_own count gates g.function) (have_own_states count gates)
     (owned count gates g.function (not_not (within_count count g.function) j.0) (λ k e.
-        let c = sum_by-cons (λ x. one_if (has_state x.function k)) g gates in
-        let one : one_if (has_state g.function k) ≡ 1 = ap one_if e in
-        let most = h k in
-        zero_held gates k (omega (arith, c, one, most))))
+    let c = sum_by-cons (λ x. one_if (has_state x.function k)) g gates in
+    let one : one_if (has_state g.function k) ≡ 1 = ap one_if e in
+    let most = h k in
+    zero_held gates k (omega (arith, c, one, most))))
     (own_of count gates (λ k. let c = sum_by-cons (λ x. one_if (has_state x.function k)) g gates in let most = h k in omega (arith, c, most)) j.1)
 
 -- in another order each state still has one gate

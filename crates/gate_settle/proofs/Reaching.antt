@@ -1,6 +1,6 @@
 -- Marks that stand still mark just what the root depends on.
-use Rattle.std.proofs.Common.{◌≡◌, ℕ, suc, zero, ◌+◌, ◌<◌, ◌≤◌, ◌⊎◌, inl, inr, Bool, true, false, List, [], ◌∷◌, length, get_or, refl, sym, ◌∙◌, ap, subst, arith}
-use Rattle.std.specs.Prelude.{◌==◌, ◌&&◌, ◌||◌, not, slice_set, sum_by, replicate, MatchBool, if◌then◌else◌}
+use Rattle.std.proofs.Common.{◌≡◌, ℕ, suc, zero, ◌<◌, ◌≤◌, ◌⊎◌, inl, inr, Bool, true, false, List, [], ◌∷◌, length, get_or, refl, sym, ◌∙◌, ap, subst, arith}
+use Rattle.std.specs.Prelude.{◌==◌, ◌&&◌, ◌||◌, not, slice_set, replicate, MatchBool, if◌then◌else◌}
 use Rattle.std.proofs.lemmas.List.Sums.{sum_by-cons}
 use Rattle.std.proofs.Math.ListN.{length-set}
 use Rattle.gate_settle.specs.declared.gate.Operand.{Operand}
@@ -12,14 +12,14 @@ use Rattle.gate_settle.specs.Reach.{leads, is_closed, IsSound, AreWithin, mark_w
 use Rattle.gate_settle.specs.Marking.{marks_with, marks_behind}
 use Rattle.gate_settle.proofs.Settling.{both, same_of, eq_self}
 use Rattle.gate_settle.proofs.Sorting.{each}
-use Rattle.gate_settle.proofs.Loops.{either, first_true, second_true, depends_trans, input_known, fed_driven}
+use Rattle.gate_settle.proofs.Loops.{either, first_true, second_true, depends_trans, input_known}
 
 set_cases : (marks : List Bool) (b s : ℕ) → is_known (slice_set marks b true) s ≡ true → (b ≡ s) ⊎ (is_known marks s ≡ true)
 set_cases [] b s h = inr refl
 set_cases (x ∷ marks) zero zero h = inl refl
 set_cases (x ∷ marks) zero (suc s) h = inr h
 set_cases (x ∷ marks) (suc b) zero h = inr h
-set_cases (x ∷ marks) (suc b) (suc s) h = elim (set_cases marks b s h) [ | inl e ↦ inl (ap suc e) | inr k ↦ inr k ]
+set_cases (x ∷ marks) (suc b) (suc s) h = elim (set_cases marks b s h) [ inl e ↦ inl (ap suc e) | inr k ↦ inr k ]
 
 with_cases : (inputs : List Operand) (marks : List Bool) (k : ℕ) → is_known (marks_with inputs marks) k ≡ true → (is_known marks k ≡ true) ⊎ (is_input inputs k ≡ true)
 with_cases [] marks k h = inl h
@@ -166,7 +166,6 @@ fed_marked root marks (g ∷ gates) a b c f h =
 pub depends_marked : (root : ℕ) (marks : List Bool) (gates : List Gate) (a b : ℕ) → is_closed root marks gates ≡ true → (root ≡ a) ⊎ (is_known marks a ≡ true) → DependsOn gates a b → is_known marks b ≡ true
 depends_marked root marks gates a b c h (directly f) = fed_marked root marks gates a b c f h
 depends_marked root marks gates a d c h (through {b = b} f r) = depends_marked root marks gates b d c (inr (fed_marked root marks gates a b c f h)) r
-
 
 pub none_sound : (gates : List Gate) (nets root : ℕ) → IsSound gates nets root (replicate nets false)
 none_sound gates nets root b lt h = let c : is_known (replicate nets false) b ≡ false = no_mark nets b lt in absurd (cc)

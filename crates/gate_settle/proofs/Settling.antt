@@ -1,18 +1,18 @@
 -- One pass over gates in an order of dependence gives the one settled assignment.
-use Rattle.std.proofs.Common.{◌≡◌, ℕ, suc, zero, ◌+◌, ◌<◌, ◌≤◌, ◌⊎◌, ◌≢◌, inl, inr, Bool, true, false, List, [], ◌∷◌, length, map, get_or, refl, sym, ◌∙◌, ap, subst, arith}
-use Rattle.std.specs.Prelude.{◌==◌, ◌&&◌, ◌||◌, not, slice_set, slice_index_or}
-use Rattle.std.proofs.lemmas.List.{get_or-set_same, get_or-set_other, get_or_default, ext_get_or}
+use Rattle.std.proofs.Common.{◌≡◌, ℕ, suc, zero, ◌<◌, ◌⊎◌, ◌≢◌, inl, inr, Bool, true, false, List, [], ◌∷◌, length, map, get_or, refl, sym, ◌∙◌, ap, subst, arith}
+use Rattle.std.specs.Prelude.{◌==◌, ◌&&◌, ◌||◌, not, slice_set}
+use Rattle.std.proofs.lemmas.List.{get_or-set_same, get_or-set_other, ext_get_or}
 use Rattle.std.proofs.Math.ListN.{length-set}
 use Rattle.std.proofs.lemmas.Grind.{common_steps}
 use native.Mathlib.Decide.{dec_lt}
 use Rattle.tern_core.specs.declared.tern.Tern.{Tern}
-use Rattle.tern_core.specs.declared.tern.Tern.TheVariants.{Zero, One, Unknown}
+use Rattle.tern_core.specs.declared.tern.Tern.TheVariants.{Unknown}
 use Rattle.udp_table.specs.Table.{Table}
 use Rattle.gate_settle.specs.declared.gate.Operand.{Operand}
 use Rattle.gate_settle.specs.declared.gate.Operand.TheVariants.{Net, Constant}
 use Rattle.gate_settle.specs.declared.gate.Gate.{Gate}
-use Rattle.gate_settle.specs.Gates.{value_at, operand_value, function_value, gate_value, levels_of, is_among, is_driven}
-use Rattle.gate_settle.specs.Order.{is_known, marked, is_operand_known, all_known, all_unknown, is_ordered}
+use Rattle.gate_settle.specs.Gates.{value_at, operand_value, function_value, gate_value, is_among, is_driven}
+use Rattle.gate_settle.specs.Order.{is_known, marked, all_known, all_unknown, is_ordered}
 use Rattle.gate_settle.specs.Settled.{AllHave, AreGatesSettled, AreSettled, written, values_after}
 
 -- ---- Booleans
@@ -129,7 +129,7 @@ written_same (o ∷ os) v nets k h lt =
     elim (is_among os k) as (λ w. is_among os k ≡ w → value_at (written os v (slice_set nets o v)) k ≡ v) [
       | true ↦ λ e. written_same os v (slice_set nets o v) k e (omega arith)
       | false ↦ λ e.
-          let here : (o == k) ≡ true = elim (o == k) as (λ w. (o == k) ≡ w → (o == k) ≡ true) [ | true ↦ λ f. f | false ↦ λ f. let c : (o == k || is_among os k) ≡ false = none (o == k) (is_among os k) f e in absurd (cc) ] refl in
+          let here : (o == k) ≡ true = elim (o == k) as (λ w. (o == k) ≡ w → (o == k) ≡ true) [ true ↦ λ f. f | false ↦ λ f. let c : (o == k || is_among os k) ≡ false = none (o == k) (is_among os k) f e in absurd (cc) ] refl in
           let s : o ≡ k = same_of o k here in
           written_other os v (slice_set nets o v) k e ∙ subst (λ n. value_at (slice_set nets o v) n ≡ v) s (get_or-set_same nets o v Unknown (omega arith))
     ] refl
@@ -161,9 +161,9 @@ module _ (tables : List Table) (states : List Tern) where
   have_all : (nets : List Tern) (os : List ℕ) (v : Tern) → ((k : ℕ) → is_among os k ≡ true → value_at nets k ≡ v) → AllHave nets os v
   have_all nets [] v h = tt
   have_all nets (o ∷ os) v h = (
-      h o (ap (λ b. b || is_among os o) (eq_self o)),
-      have_all nets os v (λ k a. h k (among_later (o == k) (is_among os k) a)),
-    )
+    h o (ap (λ b. b || is_among os o) (eq_self o)),
+    have_all nets os v (λ k a. h k (among_later (o == k) (is_among os k) a)),
+  )
     where
       among_later : (a b : Bool) → b ≡ true → (a || b) ≡ true
       among_later true b h = refl
@@ -200,7 +200,7 @@ module _ (tables : List Table) (states : List Tern) where
         have_all last g.outputs (gate_value tables states last g) (λ k a.
             let lt : k < length known = among_within known g.outputs k j.0 a in
             after_other gates next k (known_apart (marked g.outputs true known) gates k j.1 (among_known g.outputs known k a))
-                ∙ written_same g.outputs v nets k a (omega arith) ∙ sym kept),
+            ∙ written_same g.outputs v nets k a (omega arith) ∙ sym kept),
         after_settled (marked g.outputs true known) gates next j.1 more,
       )
 
@@ -215,12 +215,12 @@ module _ (tables : List Table) (states : List Tern) where
       let same : gate_value tables states all g ≡ v = same_value known all nets g (λ k u. h k (known_apart known (g ∷ gates) k o u)) i.0 in
       let more : length (marked g.outputs true known) ≡ length next = marked_long g.outputs true known ∙ long ∙ sym (written_long g.outputs v nets) in
       settled_after (marked g.outputs true known) gates next all j.1 more s.1 (λ k free.
-          elim (is_among g.outputs k) as (λ w. is_among g.outputs k ≡ w → value_at all k ≡ value_at next k) [
-            | true ↦ λ e.
-                let lt : k < length known = among_within known g.outputs k j.0 e in
-                have_each all g.outputs (gate_value tables states all g) s.0 k e ∙ same ∙ sym (written_same g.outputs v nets k e (omega arith))
-            | false ↦ λ e. h k (none (is_among g.outputs k) (is_driven gates k) e free) ∙ sym (written_other g.outputs v nets k e)
-          ] refl)
+      elim (is_among g.outputs k) as (λ w. is_among g.outputs k ≡ w → value_at all k ≡ value_at next k) [
+        | true ↦ λ e.
+            let lt : k < length known = among_within known g.outputs k j.0 e in
+            have_each all g.outputs (gate_value tables states all g) s.0 k e ∙ same ∙ sym (written_same g.outputs v nets k e (omega arith))
+        | false ↦ λ e. h k (none (is_among g.outputs k) (is_driven gates k) e free) ∙ sym (written_other g.outputs v nets k e)
+      ] refl)
 
   pub pass_settles : (known : List Bool) (gates : List Gate) (first : List Tern) → is_ordered known gates ≡ true → length known ≡ length first → AreSettled tables gates first states (values_after tables states gates first)
   pass_settles known gates first o long = record {

@@ -1,5 +1,5 @@
 -- A network, as its callers see it: its settled assignments, and its moves.
-use Rattle.std.specs.Prelude.{◌≡◌, ℕ, List, map, length, slice_index_or}
+use Rattle.std.specs.Prelude.{◌≡◌, ℕ, List, map, length}
 use Rattle.tern_core.specs.declared.tern.Tern.{Tern}
 use Rattle.tern_core.specs.declared.tern.Tern.TheVariants.{Unknown}
 use Rattle.udp_table.specs.Table.{Table}

@@ -1,10 +1,8 @@
 -- The nets that one net depends on, as they are found.
-use Rattle.std.specs.Prelude.{◌≡◌, ◌⊎◌, ℕ, ◌<◌, ◌==◌, Bool, true, false, ◌&&◌, ◌||◌, not, if◌then◌else◌, List, [], ◌∷◌, sum_by}
-use Rattle.gate_settle.specs.declared.gate.Operand.{Operand}
-use Rattle.gate_settle.specs.declared.gate.Operand.TheVariants.{Net, Constant}
+use Rattle.std.specs.Prelude.{◌≡◌, ℕ, ◌<◌, ◌==◌, Bool, true, false, ◌&&◌, ◌||◌, not, List, [], ◌∷◌, sum_by}
 use Rattle.gate_settle.specs.declared.gate.Gate.{Gate}
 use Rattle.gate_settle.specs.Gates.{is_driven}
-use Rattle.gate_settle.specs.Order.{is_known, all_known, DependsOn, is_fed_by}
+use Rattle.gate_settle.specs.Order.{is_known, all_known, DependsOn}
 
 -- one of the outputs is the root, or is marked
 abbrev pub leads : ℕ → List Bool → List ℕ → Bool

@@ -1,6 +1,5 @@
-use Rattle.std.proofs.Common.{◌≡◌, List, [], map, sym, ◌∙◌, ap, slice_index, drop, arith}
+use Rattle.std.proofs.Common.{◌≡◌, [], map, sym, ◌∙◌, ap, slice_index, drop, arith}
 use Rattle.std.proofs.lemmas.Grind.{common_steps}
-use Rattle.gate_settle.specs.declared.gate.Gate.{Gate}
 use Rattle.gate_settle.specs.Claims.{claim_of, claimed_by}
 use Rattle.gate_settle.proofs.Counting.{claims_at}
 use Rattle.gate_settle.proofs.claims.claims.Goals as goal

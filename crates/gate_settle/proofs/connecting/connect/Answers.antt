@@ -1,10 +1,8 @@
-use Rattle.std.proofs.Common.{◌≡◌, ℕ, ◌+◌, ◌<◌, ◌≤◌, true, List, length, Option, None, Some, sym, ◌∙◌, ap, subst, rules, arith}
+use Rattle.std.proofs.Common.{◌≡◌, ℕ, ◌<◌, true, List, length, Option, sym, ◌∙◌, ap, subst, rules}
 use Rattle.std.specs.Prelude.{sum_by, MatchOption}
 use Rattle.gate_settle.specs.declared.gate.Gate.{Gate}
-use Rattle.gate_settle.specs.declared.gate.Given.{Given}
 use Rattle.gate_settle.specs.Order.{is_ordered, known_at_first, known_after, none_ready, DependsOn}
 use Rattle.gate_settle.specs.Reach.{AreWithin}
-use Rattle.gate_settle.specs.Claims.{claims_on}
 use Rattle.gate_settle.specs.Settled.{have_own_states}
 use Rattle.gate_settle.specs.Connecting.{HaveOneDriver, HaveNoLoop}
 use Rattle.gate_settle.proofs.Moving.{own_arranged}
@@ -20,8 +18,7 @@ invariant_of-result c =
     let empty : length c.in_ok-arranged.arranged.waiting.items ≡ 0 = search rules in
     let same : (f : Gate → ℕ) → sum_by f sorted ≡ sum_by f all = whole sorted c.in_ok-arranged.arranged.waiting.items all (λ f. c.in_ok-arranged.ensures.gates f) empty in
     let ordered : is_ordered (known_at_first (length c.args.given) all) sorted ≡ true = subst (λ n. is_ordered (known_at_first n all) sorted ≡ true) nets c.in_ok-arranged.ensures.ordered in
-    let is : c.from_vec-gates.result ≡ sorted = search rules in
-    (
+    let is : c.from_vec-gates.result ≡ sorted = search rules in (
       subst (λ gs. is_ordered (known_at_first (length c.args.given) gs) gs ≡ true) (sym is) (ordered_whole (length c.args.given) sorted all same ordered),
       subst (λ gs. have_own_states (length c.args.state_nets) gs ≡ true) (sym is) (own_arranged (length c.args.state_nets) sorted all same c.requires.states),
     )

@@ -1,4 +1,4 @@
-use Rattle.std.proofs.Common.{◌≡◌, length, map, take}
+use Rattle.std.proofs.Common.{◌≡◌, map, take}
 use Rattle.gate_settle.specs.Network.{given_value}
 use Rattle.gate_settle.proofs.network.begin.Given as goal
 

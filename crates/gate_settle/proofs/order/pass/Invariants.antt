@@ -1,4 +1,4 @@
-use Rattle.std.proofs.Common.{◌≡◌, ◌+◌, ◌≤◌, ℕ, List, Bool, true, length, vec_len}
+use Rattle.std.proofs.Common.{◌≡◌, ◌+◌, ◌≤◌, ℕ, List, Bool, true, length}
 use Rattle.std.specs.Prelude.{sum_by}
 use Rattle.gate_settle.specs.declared.gate.Gate.{Gate}
 use Rattle.gate_settle.specs.Order.{is_ordered, known_after, none_ready}

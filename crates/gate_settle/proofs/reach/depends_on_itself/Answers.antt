@@ -1,4 +1,4 @@
-use Rattle.std.proofs.Common.{◌≡◌, ◌<◌, false, List, Bool, length, sym, ◌∙◌, subst, ap, rules}
+use Rattle.std.proofs.Common.{◌≡◌, ◌<◌, false, length, sym, ◌∙◌, subst, ap, rules}
 use Rattle.std.specs.Prelude.{replicate}
 use Rattle.gate_settle.specs.Reach.{IsSound, AreWithin}
 use Rattle.gate_settle.proofs.Reaching.{none_sound, false_long}

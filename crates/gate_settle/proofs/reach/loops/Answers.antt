@@ -1,8 +1,8 @@
-use Rattle.std.proofs.Common.{◌≡◌, ◌<◌, Bool, true, false, List, length, refl, sym, inl, subst, arith}
+use Rattle.std.proofs.Common.{◌<◌, true, false, length, subst, arith}
 use Rattle.std.specs.Prelude.{MatchBool}
 use Rattle.std.proofs.lemmas.List.{get_or_default}
-use Rattle.gate_settle.specs.Order.{is_known, DependsOn}
-use Rattle.gate_settle.proofs.Reaching.{depends_marked, marked_so}
+use Rattle.gate_settle.specs.Order.{DependsOn}
+use Rattle.gate_settle.proofs.Reaching.{marked_so}
 use Rattle.gate_settle.proofs.reach.loops.Goals as goal
 
 pub returns : goal.returns

@@ -1,4 +1,4 @@
-use Rattle.std.proofs.Common.{◌≡◌, ℕ, Bool, List, true, length, sym, ◌∙◌, ap, subst, arith}
+use Rattle.std.proofs.Common.{◌≡◌, true, length, sym, ◌∙◌, ap, subst, arith}
 use Rattle.gate_settle.specs.Reach.{IsSound, is_closed, unmarked}
 use Rattle.gate_settle.specs.Marking.{marks_behind}
 use Rattle.gate_settle.proofs.Reaching.{behind_sound, behind_long, behind_less, behind_still}

@@ -1,7 +1,7 @@
 use Rattle.std.proofs.Common.{◌≡◌, true, length, sym, ◌∙◌, subst, refl, rules}
 use Rattle.std.proofs.lemmas.List.{length-map}
 use Rattle.gate_settle.specs.Order.{known_at_first, is_ordered}
-use Rattle.gate_settle.specs.Settled.{values_after, nets_after, states_after, AreSettled, have_own_states}
+use Rattle.gate_settle.specs.Settled.{nets_after, states_after, AreSettled, have_own_states}
 use Rattle.gate_settle.specs.Network.{Network, given_value, given_values, IsMoveOf}
 use Rattle.gate_settle.proofs.Settling.{pass_settles}
 use Rattle.gate_settle.proofs.Moving.{move_is_pass, states_moved, states_long}
