@@ -14,3 +14,4 @@ pub mod TableLemmas
 pub mod RowLemmas
 pub mod Writing
 pub mod CellLemmas
+pub mod OneValue

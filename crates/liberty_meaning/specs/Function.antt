@@ -60,6 +60,10 @@ IsFunction ts f = Spells 64 sum ts f
 abbrev pub SpellsText : List ℕ → Function → Type 0
 SpellsText text f = IsFunction (bare (words_of text)) f
 
+-- all functions that the text spells have one value, whatever the names' values are
+abbrev pub HasOneValue : List ℕ → Type 0
+HasOneValue text = (f g : Function) → SpellsText text f → SpellsText text g → (names : List ℕ → Tern) → value_of names f ≡ value_of names g
+
 -- the tokens can be gone on with to a whole function
 abbrev pub IsFront : List Word → Type 0
 IsFront ts = (us : List Word) × (f : Function) × IsFunction (ts ++ us) f

@@ -5,6 +5,7 @@ mod behaviour;
 mod cell;
 mod compiler;
 mod function;
+pub mod laws;
 mod names;
 mod outputs;
 mod pair;
