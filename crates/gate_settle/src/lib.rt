@@ -14,3 +14,6 @@ mod settle;
 pub use connecting::{ConnectRefusal, connect};
 pub use gate::{Fold, Function, Gate, Given, Operand};
 pub use network::GateNet;
+
+#[cfg(test)]
+mod tests;
