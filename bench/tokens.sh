@@ -1,22 +1,3 @@
 #!/bin/sh
-# Prints how many times as fast as sha256sum reads a Liberty file of 100 MB the proved tokenizer cuts it into tokens:
-# once for the whole program, which reads the file first, and once for the cutting alone, by ten passes more in one run.
-set -eu
-cd "$(dirname "$0")/.."
-program=crates/token_count/out/token_count
-[ -x "$program" ] || (cd crates/token_count && rt run > /dev/null)
-file=$(mktemp)
-trap 'rm -f "$file"' EXIT
-python3 bench/make_liberty.py "${1:-100}" "$file"
-PYTHONPATH=bench python3 - "$program" "$file" <<'P'
-import sys
-from fastest import fastest, printed
-
-program, path = sys.argv[1:]
-print(printed([program, path]))
-sha, once, eleven = fastest(["sha256sum", path], 5), fastest([program, path], 5), fastest([program, path, "11"], 3)
-cut = (eleven - once) / 10
-print(f"sha256sum {sha:.3f} s")
-print(f"reading and cutting {once:.3f} s, ratio {sha / once:.2f}")
-print(f"cutting alone {cut:.3f} s, ratio {sha / cut:.2f}")
-P
+# Prints how many times as fast as sha256sum reads a Liberty file of 100 MB the proved tokenizer cuts it into tokens.
+exec "$(dirname "$0")/on_liberty.sh" token_count tokens.py "${1:-100}"
