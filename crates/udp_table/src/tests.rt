@@ -75,6 +75,9 @@ fn a_level_row_decides_before_an_edge_row(rt: HostRuntime) -> Result<(), Fail> {
         step(&rt, &edge_first, 1, ZERO, &[ONE, ONE, ONE], ZERO),
         ZERO
     );
+    let copy = edge_first.copied(alloc)?;
+    assert_eq!(rt; copy.name(), edge_first.name());
+    assert_eq!(rt; step(&rt, &copy, 1, ZERO, &[ONE, ONE, ZERO], X), ONE);
     Ok(())
 }
 

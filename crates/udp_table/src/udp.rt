@@ -10,11 +10,11 @@ use crate::conflict::first_conflict;
 use crate::order::OrderRoom;
 use crate::read::{row_number, rows};
 use crate::refusal::UdpRefusal;
-use crate::row::Row;
+use crate::row::{Row, copied_rows};
 use std::alloc::Global;
 use std::marker::Model;
 use tern_core::Tern;
-use text_scan::{Items, Text};
+use text_scan::{Items, NoMemory, Text};
 use verilog_source::UdpText;
 
 /// The most inputs that a primitive may have.
@@ -68,6 +68,17 @@ impl Udp {
         ensures { result.now ≡ self.now.name }
     {
         self.name.as_bytes()
+    }
+
+    pub fn copied(&self, alloc: Global) -> Result<Udp, NoMemory>
+        ensures { IfOk result (λ udp. udp ≡ self.now) }
+    {
+        Ok(Udp {
+            name: self.name.copied(alloc)?,
+            sequential: self.sequential,
+            inputs: self.inputs,
+            rows: copied_rows(alloc, self.rows.as_slice())?,
+        })
     }
 
     /// The number of inputs.
