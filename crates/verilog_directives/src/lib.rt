@@ -1,0 +1,17 @@
+//! The tokens of a Verilog text that are left when its compiler directives are obeyed (IEEE 1364-2005, clause 19).
+#![tactic(auto)]
+
+mod condition;
+mod conditions;
+mod held;
+mod left;
+mod line;
+mod lookahead;
+mod looking;
+mod names;
+mod signs;
+mod word;
+
+pub use left::{Left, Role};
+pub use signs::name_in;
+pub use word::is_reserved;
