@@ -1,3 +1,4 @@
 pub mod NameSets
 pub mod Looks
 pub mod Reversed
+pub mod Orders

@@ -1,5 +1,5 @@
 -- What is left of a text's tokens when its directives are obeyed.
-use Rattle.std.specs.Prelude.{ℕ, zero, suc, Bool, true, false, not, ◌==◌, ◌&&◌, ◌||◌, nat_lt, nat_le, is_some, if◌then◌else◌, List, [], ◌∷◌, length, Option, None, Some}
+use Rattle.std.specs.Prelude.{ℕ, zero, suc, Bool, true, false, not, ◌==◌, ◌&&◌, ◌||◌, nat_lt, nat_le, is_some, if◌then◌else◌, List, [], ◌∷◌, length, Option, None, Some, Result, Ok, Err}
 use Rattle.std.specs.List.{slice_index_or}
 use Rattle.std.specs.Ordering.{nat_cmp}
 use Rattle.std.specs.Cmp.Lexicographic.{slice_cmp}
@@ -51,10 +51,6 @@ abbrev pub end_item : List Condition → Token → Left
 end_item [] t = item Plain t
 end_item (c ∷ cs) t = item Misplaced t
 
--- where text isn't read a token leaves nothing
-unfoldable pub read : State → Token → Turn
-read s t = if is_read s.conditions then Shows (item Plain t) s else Goes 0 s
-
 -- a directive's turn, where its text is read
 abbrev pub where_read : State → Turn → Turn
 where_read s turn = if is_read s.conditions then turn else Goes 0 s
@@ -63,20 +59,32 @@ where_read s turn = if is_read s.conditions then turn else Goes 0 s
 abbrev pub after : ℕ → Token → List Token → Token
 after place mark ts = slice_index_or ts place mark
 
--- a directive with a name, by the name of the token in the name's place
-abbrev pub with_name : Limits → Token → Option (List ℕ) → (List ℕ → Turn) → Turn
-with_name limits t None turn = Ends (item Misplaced t)
-with_name limits t (Some name) turn = if nat_le (length name) limits.name then turn name else Ends (item LongName t)
+abbrev pub judged : Limits → Token → Option (List ℕ) → Result (List ℕ) Left
+judged limits t None = Err (item Misplaced t)
+judged limits t (Some name) = if nat_le (length name) limits.name then Ok name else Err (item LongName t)
 
--- the second token after the ` is the directive's name
+-- the name of the token in a directive's name's place, or the last item
+unfoldable pub name_in_place : List ℕ → Limits → Token → Result (List ℕ) Left
+name_in_place source limits t = judged limits t (name_of source t)
+
+abbrev pub with_name : Result (List ℕ) Left → (List ℕ → Turn) → Turn
+with_name (Ok name) turn = turn name
+with_name (Err last) turn = Ends last
+
+-- the second token after the ` is in the name's place
 abbrev pub named : List ℕ → Limits → Token → List Token → (List ℕ → Turn) → Turn
-named source limits mark ts turn = with_name limits (after 1 mark ts) (name_of source (after 1 mark ts)) turn
+named source limits mark ts turn = with_name (name_in_place source limits (after 1 mark ts)) turn
 
--- a condition opens, by the test of its name
-unfoldable pub opening : List ℕ → Limits → State → Token → List Token → (Bool → Bool) → Turn
-opening source limits s mark ts test =
+-- a test of `ifdef wants that the name is defined, one of `ifndef that it isn't
+abbrev pub holds : Bool → Bool → Bool
+holds true is_defined = is_defined
+holds false is_defined = not is_defined
+
+-- a condition opens
+unfoldable pub opening : List ℕ → Limits → State → Token → List Token → Bool → Turn
+opening source limits s mark ts wanted =
     if nat_lt (length s.conditions) limits.nesting
-    then named source limits mark ts (λ name. Goes 2 (record s { conditions = opened (test (set.contains s.names name)) ∷ s.conditions }))
+    then named source limits mark ts (λ name. Goes 2 (record s { conditions = opened (holds wanted (set.contains s.names name)) ∷ s.conditions }))
     else Ends (item TooDeep mark)
 
 -- another branch of the innermost condition
@@ -104,10 +112,15 @@ macro_turn s mark = Shows (item Macro mark) (record s { line = Kept mark.span.li
 abbrev pub is_beside : Token → Token → Bool
 is_beside mark t = t.span.line == mark.span.line && not (is_end t.kind)
 
--- a name is defined that stands alone on the line after its word
+-- a name stands alone on the line after the word of `define
+unfoldable pub is_defined_alone : List ℕ → Token → List Token → Bool
+is_defined_alone source mark ts =
+    if is_beside mark (after 1 mark ts) && is_some (name_of source (after 1 mark ts)) then not (is_beside mark (after 2 mark ts)) else false
+
+-- such a name is defined; a text for it isn't obeyed
 unfoldable pub define_turn : List ℕ → Limits → State → Token → List Token → Turn
 define_turn source limits s mark ts =
-    if is_beside mark (after 1 mark ts) && is_some (name_of source (after 1 mark ts)) && not (is_beside mark (after 2 mark ts))
+    if is_defined_alone source mark ts
     then named source limits mark ts (λ name. Goes 2 (record s { names = set.insert s.names name }))
     else macro_turn s mark
 
@@ -116,8 +129,8 @@ undef_turn source limits s mark ts = named source limits mark ts (λ name. Goes 
 
 -- Conditions are obeyed everywhere, the other directives where text is read.
 unfoldable pub directive_turn : List ℕ → Limits → State → Token → List Token → Directive → Turn
-directive_turn source limits s mark ts directives.Ifdef = opening source limits s mark ts (λ is_defined. is_defined)
-directive_turn source limits s mark ts directives.Ifndef = opening source limits s mark ts not
+directive_turn source limits s mark ts directives.Ifdef = opening source limits s mark ts true
+directive_turn source limits s mark ts directives.Ifndef = opening source limits s mark ts false
 directive_turn source limits s mark ts directives.Elsif = elsif_turn source limits s mark ts s.conditions
 directive_turn source limits s mark ts directives.Else = else_turn s mark s.conditions
 directive_turn source limits s mark ts directives.Endif = endif_turn s mark s.conditions
@@ -126,20 +139,27 @@ directive_turn source limits s mark ts directives.Undef = where_read s (undef_tu
 directive_turn source limits s mark ts directives.PassedOver = where_read s (Goes 0 (record s { line = Passed mark.span.line }))
 directive_turn source limits s mark ts directives.Other = where_read s (macro_turn s mark)
 
--- a token on a line that is passed over or stands as it is, and else the turn
-abbrev pub on_line : Line → State → Token → Turn → Turn
-on_line Free s t turn = turn
-on_line (Passed line) s t turn = if t.span.line == line then Goes 0 s else turn
-on_line (Kept line) s t turn = if t.span.line == line then Shows (item Plain t) s else turn
+-- the token begins on a line that is passed over
+abbrev pub is_passed : Line → Token → Bool
+is_passed Free t = false
+is_passed (Passed line) t = t.span.line == line
+is_passed (Kept line) t = false
+
+-- the token begins on a line that stands as it is
+abbrev pub is_kept : Line → Token → Bool
+is_kept Free t = false
+is_kept (Passed line) t = false
+is_kept (Kept line) t = t.span.line == line
 
 -- the turn of a token before others
 unfoldable pub turn : List ℕ → Limits → State → Token → List Token → Turn
 turn source limits s t ts =
     if is_end t.kind then Ends (end_item s.conditions t) else
     if is_wrong source t then Shows (item Plain t) s else
-    on_line s.line s t (
-        if is_mark source t then directive_turn source limits s t ts (directive_of (word_after source t (after 0 t ts)))
-        else read s t)
+    if is_passed s.line t then Goes 0 s else
+    if is_kept s.line t then Shows (item Plain t) s else
+    if is_mark source t then directive_turn source limits s t ts (directive_of (word_after source t (after 0 t ts))) else
+    where_read s (Shows (item Plain t) s)
 
 -- the items of a turn, and then those of the rest
 abbrev pub taken : Turn → (State → ℕ → List Left) → List Left
@@ -156,3 +176,18 @@ left_from source limits s zero (t ∷ ts) = taken (turn source limits s t ts) (�
 -- what is left of a text's tokens
 unfoldable pub left_of : List ℕ → Limits → List Left
 left_of source limits = left_from source limits start 0 (tokens_of Verilog source)
+
+abbrev pub is_last_role : Role → Bool
+is_last_role Plain = false
+is_last_role Macro = false
+is_last_role Misplaced = true
+is_last_role TooDeep = true
+is_last_role LongName = true
+
+-- nothing is left after the item: the text can't be read further, or ends
+abbrev pub is_last : Left → Bool
+is_last i = is_last_role i.role || is_end i.token.kind
+
+-- an item and those after it; after the last one there are none
+unfoldable pub followed : Left → List Left → List Left
+followed i items = if is_last i then i ∷ [] else i ∷ items

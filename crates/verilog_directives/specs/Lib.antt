@@ -5,3 +5,5 @@ pub mod Left
 pub mod NameSet
 pub mod Held
 pub mod Lookahead
+pub mod Orders
+pub mod Directives

@@ -1,7 +1,7 @@
 ghost use Rattle.std.specs.Prelude.{◌≡◌};
 ghost use Rattle.verilog_directives.specs.Conditions as spec;
 
-use crate::condition::{Branch, Condition};
+use crate::condition::Condition;
 use std::alloc::Global;
 use std::marker::Model;
 use text_scan::NoMemory;
@@ -90,14 +90,5 @@ fn are_taken(conditions: &[Condition]) -> bool
 {
     conditions
         .iter()
-        .all(|condition| is_taken(condition.branch))
-}
-
-fn is_taken(branch: Branch) -> bool
-    ensures { result ≡ spec.is_taken branch }
-{
-    match branch {
-        Branch::Taken => true,
-        Branch::Waiting | Branch::Passed => false,
-    }
+        .all(|condition| condition.branch.is_taken())
 }

@@ -3,15 +3,19 @@
 
 mod condition;
 mod conditions;
+mod directives;
 mod held;
 mod left;
 mod line;
 mod lookahead;
 mod looking;
 mod names;
+mod order;
+mod ordering;
 mod signs;
 mod word;
 
+pub use directives::Directives;
 pub use left::{Left, Role};
 pub use signs::name_in;
 pub use word::is_reserved;
