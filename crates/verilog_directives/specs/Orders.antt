@@ -2,6 +2,7 @@
 use Rattle.std.specs.Prelude.{◌≡◌, ℕ, ◌<◌, ◌≤◌, true, List, [], ◌∷◌, length, drop, Option, None, Some}
 use Rattle.std.specs.FinSet as set
 use Rattle.text_scan.specs.declared.token.Token.{Token}
+use Rattle.text_scan.specs.Left.{IsSliceOf}
 use Rattle.verilog_directives.specs.declared.left.Left.{Left}
 use Rattle.verilog_directives.specs.declared.left.Role.TheVariants.{Macro}
 use Rattle.verilog_directives.specs.declared.line.Line.TheVariants.{Passed, Kept}
@@ -60,21 +61,21 @@ turn_by s mark (Elsif c) = Goes 2 (state_after s mark (Elsif c))
 turn_by s mark (Else c) = Goes 1 (state_after s mark (Else c))
 turn_by s mark Close = Goes 1 (state_after s mark Close)
 
--- nothing is read after an item that ends the list, and only where a condition is open it is changed
-abbrev pub IsLawful : State → Order → Type 0
-IsLawful s (End i) = is_last i ≡ true
-IsLawful s (Elsif c) = 0 < length s.conditions
-IsLawful s (Else c) = 0 < length s.conditions
-IsLawful s Pass = Unit {0}
-IsLawful s Show = Unit {0}
-IsLawful s PassLine = Unit {0}
-IsLawful s (Define name) = Unit {0}
-IsLawful s (Undefine name) = Unit {0}
-IsLawful s (Open c) = Unit {0}
-IsLawful s Close = Unit {0}
+-- an item that ends the list is a last one and stands in the text, and only where a condition is open it is changed
+abbrev pub IsLawful : List ℕ → State → Order → Type 0
+IsLawful text s (End i) = (is_last i ≡ true) × IsSliceOf text i.token
+IsLawful text s (Elsif c) = 0 < length s.conditions
+IsLawful text s (Else c) = 0 < length s.conditions
+IsLawful text s Pass = Unit {0}
+IsLawful text s Show = Unit {0}
+IsLawful text s PassLine = Unit {0}
+IsLawful text s (Define name) = Unit {0}
+IsLawful text s (Undefine name) = Unit {0}
+IsLawful text s (Open c) = Unit {0}
+IsLawful text s Close = Unit {0}
 
 -- the order gives this turn in this state, and its tokens are among so many
-pub record Asks (s : State) (mark : Token) (many : ℕ) (order : Order) (asked : Turn) : Type 0 where
+pub record Asks (text : List ℕ) (s : State) (mark : Token) (many : ℕ) (order : Order) (asked : Turn) : Type 0 where
   pub turn : turn_by s mark order ≡ asked
-  pub lawful : IsLawful s order
+  pub lawful : IsLawful text s order
   pub held : size order ≤ many

@@ -10,6 +10,7 @@ mod line;
 mod lookahead;
 mod looking;
 mod names;
+mod obeying;
 mod order;
 mod ordering;
 mod signs;

@@ -1,6 +1,7 @@
 //! What a directive asks for.
-ghost use Rattle.std.specs.Prelude.{◌≡◌, ◌≤◌, true, false, Ok, Err, OnOk, IfErr, MatchResult};
+ghost use Rattle.std.specs.Prelude.{◌≡◌, ◌≤◌, true, false, Ok, Err, OnOk, IfErr, MatchResult, if◌then◌else◌};
 ghost use Rattle.text_scan.specs.Left.{IsSliceOf, is_end as spec_is_end};
+ghost use Rattle.verilog_directives.specs.Conditions.{is_read};
 ghost use Rattle.verilog_directives.specs.Directives as spec;
 ghost use Rattle.verilog_directives.specs.Left as left;
 ghost use Rattle.verilog_directives.specs.Orders.{Asks};
@@ -42,6 +43,7 @@ fn name_in_place<'s>(source: &'s [u8], limits: Limits, token: Token) -> Result<&
     ensures name { MatchResult result (λ name. left.name_in_place source.now limits token ≡ Ok name.now) (λ last. left.name_in_place source.now limits token ≡ Err last) }
     ensures open { OnOk result (spec_is_end token.kind ≡ false) }
     ensures last { IfErr result (λ last. left.is_last last ≡ true) }
+    ensures slice { IfErr result (λ last. IsSliceOf source.now last.token) }
 {
     let Some(name) = name_of(source, token) else {
         return Err(Left {
@@ -68,6 +70,7 @@ impl<'s> Directives<'s> {
             (λ name. left.name_in_place self.old.tokens.source.now self.old.limits (left.after 1 mark (spec.rest self.old)) ≡ Ok name.now)
             (λ last. left.name_in_place self.old.tokens.source.now self.old.limits (left.after 1 mark (spec.rest self.old)) ≡ Err last) }
         ensures last { IfErr result (λ last. left.is_last last ≡ true) }
+        ensures slice { IfErr result (λ last. IsSliceOf self.old.tokens.source.now last.token) }
     {
         let token = self.tokens.at(2);
         name_in_place(self.tokens.source, self.limits, token)
@@ -75,9 +78,10 @@ impl<'s> Directives<'s> {
 
     #[tactic(auto, unfolding(crate::specs::Left::opening))]
     fn opening(&mut self, mark: Token, wanted: bool) -> Order<'s>
-        requires { 2 ≤ spec.held self.old }
+        requires held { 2 ≤ spec.held self.old }
+        requires slice { IsSliceOf self.old.tokens.source.now mark }
         ensures looks { spec.OnlyLooks self.old self.new }
-        ensures asks { Asks (spec.state self.old) mark (spec.held self.new) result
+        ensures asks { Asks self.old.tokens.source.now (spec.state self.old) mark (spec.held self.new) result
             (left.opening self.old.tokens.source.now self.old.limits (spec.state self.old) mark (spec.rest self.old) wanted) }
     {
         if self.conditions.len() >= self.limits.nesting as usize {
@@ -94,9 +98,10 @@ impl<'s> Directives<'s> {
 
     #[tactic(auto, unfolding(crate::specs::Left::elsif_turn))]
     fn elsif(&mut self, mark: Token) -> Order<'s>
-        requires { 2 ≤ spec.held self.old }
+        requires held { 2 ≤ spec.held self.old }
+        requires slice { IsSliceOf self.old.tokens.source.now mark }
         ensures looks { spec.OnlyLooks self.old self.new }
-        ensures asks { Asks (spec.state self.old) mark (spec.held self.new) result
+        ensures asks { Asks self.old.tokens.source.now (spec.state self.old) mark (spec.held self.new) result
             (left.elsif_turn self.old.tokens.source.now self.old.limits (spec.state self.old) mark (spec.rest self.old) self.old.conditions) }
     {
         let Some(condition) = self.conditions.innermost() else {
@@ -113,8 +118,9 @@ impl<'s> Directives<'s> {
 
     #[tactic(auto, unfolding(crate::specs::Left::else_turn))]
     fn last_branch(&self, mark: Token) -> Order<'s>
-        requires { 2 ≤ spec.held self.now }
-        ensures asks { Asks (spec.state self.now) mark (spec.held self.now) result (left.else_turn (spec.state self.now) mark self.now.conditions) }
+        requires held { 2 ≤ spec.held self.now }
+        requires slice { IsSliceOf self.now.tokens.source.now mark }
+        ensures asks { Asks self.now.tokens.source.now (spec.state self.now) mark (spec.held self.now) result (left.else_turn (spec.state self.now) mark self.now.conditions) }
     {
         let Some(condition) = self.conditions.innermost() else {
             return last(mark, Role::Misplaced);
@@ -127,8 +133,9 @@ impl<'s> Directives<'s> {
 
     #[tactic(auto, unfolding(crate::specs::Left::endif_turn))]
     fn closing(&self, mark: Token) -> Order<'s>
-        requires { 2 ≤ spec.held self.now }
-        ensures asks { Asks (spec.state self.now) mark (spec.held self.now) result (left.endif_turn (spec.state self.now) mark self.now.conditions) }
+        requires held { 2 ≤ spec.held self.now }
+        requires slice { IsSliceOf self.now.tokens.source.now mark }
+        ensures asks { Asks self.now.tokens.source.now (spec.state self.now) mark (spec.held self.now) result (left.endif_turn (spec.state self.now) mark self.now.conditions) }
     {
         if self.conditions.innermost().is_some() {
             Order::Close
@@ -153,9 +160,10 @@ impl<'s> Directives<'s> {
 
     #[tactic(auto, unfolding(crate::specs::Left::define_turn))]
     fn define(&mut self, mark: Token) -> Order<'s>
-        requires { 2 ≤ spec.held self.old }
+        requires held { 2 ≤ spec.held self.old }
+        requires slice { IsSliceOf self.old.tokens.source.now mark }
         ensures looks { spec.OnlyLooks self.old self.new }
-        ensures asks { Asks (spec.state self.old) mark (spec.held self.new) result
+        ensures asks { Asks self.old.tokens.source.now (spec.state self.old) mark (spec.held self.new) result
             (left.define_turn self.old.tokens.source.now self.old.limits (spec.state self.old) mark (spec.rest self.old)) }
     {
         if !self.is_defined_alone(mark) {
@@ -169,14 +177,69 @@ impl<'s> Directives<'s> {
 
     #[tactic(auto, unfolding(crate::specs::Left::undef_turn))]
     fn undef(&mut self, mark: Token) -> Order<'s>
-        requires { 2 ≤ spec.held self.old }
+        requires held { 2 ≤ spec.held self.old }
+        requires slice { IsSliceOf self.old.tokens.source.now mark }
         ensures looks { spec.OnlyLooks self.old self.new }
-        ensures asks { Asks (spec.state self.old) mark (spec.held self.new) result
+        ensures asks { Asks self.old.tokens.source.now (spec.state self.old) mark (spec.held self.new) result
             (left.undef_turn self.old.tokens.source.now self.old.limits (spec.state self.old) mark (spec.rest self.old)) }
     {
         match self.named(mark) {
             Err(item) => Order::End(item),
             Ok(name) => Order::Undefine(name),
         }
+    }
+
+    // The order, where text is read.
+    fn where_read(&self, order: Order<'s>) -> Order<'s>
+        ensures { result ≡ (if is_read self.now.conditions then order.entry else orders.Pass) }
+    {
+        if self.conditions.is_read() {
+            order
+        } else {
+            Order::Pass
+        }
+    }
+
+    #[tactic(auto, unfolding(crate::specs::Left::directive_turn), using(crate::proofs::Orders::asks_where_read))]
+    fn order_of(&mut self, mark: Token, directive: Directive) -> Order<'s>
+        requires held { 1 ≤ spec.held self.old }
+        requires slice { IsSliceOf self.old.tokens.source.now mark }
+        requires word { (directive ≡ Directive.Other → ⊥) → 2 ≤ spec.held self.old }
+        ensures looks { spec.OnlyLooks self.old self.new }
+        ensures asks { Asks self.old.tokens.source.now (spec.state self.old) mark (spec.held self.new) result
+            (left.directive_turn self.old.tokens.source.now self.old.limits (spec.state self.old) mark (spec.rest self.old) directive) }
+    {
+        match directive {
+            Directive::Ifdef => self.opening(mark, true),
+            Directive::Ifndef => self.opening(mark, false),
+            Directive::Elsif => self.elsif(mark),
+            Directive::Else => self.last_branch(mark),
+            Directive::Endif => self.closing(mark),
+            Directive::Define => {
+                let order = self.define(mark);
+                self.where_read(order)
+            }
+            Directive::Undef => {
+                let order = self.undef(mark);
+                self.where_read(order)
+            }
+            Directive::PassedOver => self.where_read(Order::PassLine),
+            Directive::Other => self.where_read(Order::Show),
+        }
+    }
+
+    /// What the directive of the next token, a `` ` ``, asks for.
+    #[tactic(auto, using(crate::proofs::Orders::after_first, crate::proofs::Orders::word_no_end_of))]
+    pub(crate) fn order(&mut self, mark: Token) -> Order<'s>
+        requires held { 1 ≤ spec.held self.old }
+        requires slice { IsSliceOf self.old.tokens.source.now mark }
+        ensures looks { spec.OnlyLooks self.old self.new }
+        ensures asks { Asks self.old.tokens.source.now (spec.state self.old) mark (spec.held self.new) result
+            (left.directive_turn self.old.tokens.source.now self.old.limits (spec.state self.old) mark (spec.rest self.old)
+                (words.directive_of (signs.word_after self.old.tokens.source.now mark (left.after 0 mark (spec.rest self.old))))) }
+    {
+        let word = self.tokens.at(1);
+        let directive = Directive::of(word_after(self.tokens.source, mark, word));
+        self.order_of(mark, directive)
     }
 }
