@@ -20,3 +20,6 @@ pub use directives::Directives;
 pub use left::{Left, Role};
 pub use signs::name_in;
 pub use word::is_reserved;
+
+#[cfg(test)]
+mod tests;
