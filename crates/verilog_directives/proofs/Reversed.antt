@@ -41,20 +41,20 @@ pub first_reversed : {A : Type 0} (xs : List A) → slice_get (reverse xs) 0 ≡
 first_reversed xs = ⊎_elim
     (λ none. rw none refl)
     (λ some.
-        let count : length (some.0 ++ some.1 ∷ []) - 1 ≡ length some.0 = omega (arith, length-append some.0 (some.1 ∷ [])) in
-        rw some.2 (ap (λ z. slice_get z 0) (reversed_more some.0 some.1) ∙ sym (get_last some.0 some.1) ∙ ap (slice_get (some.0 ++ some.1 ∷ [])) (sym count)))
+    let count : length (some.0 ++ some.1 ∷ []) - 1 ≡ length some.0 = omega (arith, length-append some.0 (some.1 ∷ [])) in
+    rw some.2 (ap (λ z. slice_get z 0) (reversed_more some.0 some.1) ∙ sym (get_last some.0 some.1) ∙ ap (slice_get (some.0 ++ some.1 ∷ [])) (sym count)))
     (last_of xs)
 
 pub reversed_changed : {A : Type 0} (xs : List A) (x : A) → 0 < length (reverse xs) → reverse (set xs (length xs - 1) x) ≡ x ∷ drop 1 (reverse xs)
 reversed_changed xs x some = ⊎_elim
     (λ none. absurd (let empty : length (reverse xs) ≡ 0 = ap (λ z. length (reverse z)) none in omega arith))
     (λ last.
-        let count : length (last.0 ++ last.1 ∷ []) - 1 ≡ length last.0 = omega (arith, length-append last.0 (last.1 ∷ [])) in
-        ap (λ z. reverse (set z (length z - 1) x)) last.2
-        ∙ ap (λ z. reverse (set (last.0 ++ last.1 ∷ []) z x)) count
-        ∙ ap reverse (set-append_seam last.0 last.1 [] x)
-        ∙ reversed_more last.0 x
-        ∙ ap (λ z. x ∷ drop 1 z) (sym (ap reverse last.2 ∙ reversed_more last.0 last.1)))
+    let count : length (last.0 ++ last.1 ∷ []) - 1 ≡ length last.0 = omega (arith, length-append last.0 (last.1 ∷ [])) in
+    ap (λ z. reverse (set z (length z - 1) x)) last.2
+    ∙ ap (λ z. reverse (set (last.0 ++ last.1 ∷ []) z x)) count
+    ∙ ap reverse (set-append_seam last.0 last.1 [] x)
+    ∙ reversed_more last.0 x
+    ∙ ap (λ z. x ∷ drop 1 z) (sym (ap reverse last.2 ∙ reversed_more last.0 last.1)))
     (last_of xs)
 
 pub reversed_fewer : {A : Type 0} (xs ys : List A) (last : Option A) → xs ≡ ys ++ option_to_list last → (last ≡ None → ys ≡ []) → reverse ys ≡ drop 1 (reverse xs)

@@ -25,7 +25,11 @@ impl Branch {
     fn first(holds: bool) -> Branch
         ensures { result ≡ spec.first_branch holds }
     {
-        if holds { Branch::Taken } else { Branch::Waiting }
+        if holds {
+            Branch::Taken
+        } else {
+            Branch::Waiting
+        }
     }
 
     fn next(self, holds: bool) -> Branch

@@ -121,9 +121,9 @@ impl<'s> Directives<'s> {
         ensures source { self.new.tokens.source.now ≡ self.old.tokens.source.now }
         ensures ok { IfOk result (λ shown.
             spec.left_by self.old.tokens.source.now self.old.limits
-                (left.directive_turn self.old.tokens.source.now self.old.limits (spec.state self.old) mark (spec.rest self.old)
-                    (words.directive_of (signs.word_after self.old.tokens.source.now mark (left.after 0 mark (spec.rest self.old)))))
-                (spec.rest self.old)
+            (left.directive_turn self.old.tokens.source.now self.old.limits (spec.state self.old) mark (spec.rest self.old)
+            (words.directive_of (signs.word_after self.old.tokens.source.now mark (left.after 0 mark (spec.rest self.old)))))
+            (spec.rest self.old)
             ≡ spec.before shown (spec.left self.new)) }
         ensures last_stays { IfOk result (λ shown. IfSome shown (λ item. left.is_last item ≡ true → spec.left self.new ≡ spec.left self.old)) }
         ensures fewer { IfOk result (λ shown. IfNone shown (length (to_come self.new.tokens) < length (to_come self.old.tokens))) }

@@ -236,7 +236,7 @@ impl<'s> Directives<'s> {
         ensures looks { spec.OnlyLooks self.old self.new }
         ensures asks { Asks self.old.tokens.source.now (spec.state self.old) mark (spec.held self.new) result
             (left.directive_turn self.old.tokens.source.now self.old.limits (spec.state self.old) mark (spec.rest self.old)
-                (words.directive_of (signs.word_after self.old.tokens.source.now mark (left.after 0 mark (spec.rest self.old))))) }
+            (words.directive_of (signs.word_after self.old.tokens.source.now mark (left.after 0 mark (spec.rest self.old))))) }
     {
         let word = self.tokens.at(1);
         let directive = Directive::of(word_after(self.tokens.source, mark, word));

@@ -21,7 +21,7 @@ returns-then-is_wrong-clause-ok c =
     let token = c.take-token in
     rw c.plain.ensures (ap (λ z. left_from z self.limits (state self) 0 (to_come self.tokens)) (sym token.ensures.source)
     ∙ shows_wrong token.new.self.source.now self.limits (state self) token.result _ _ token.ensures.next
-      (sym c.is_end.ensures ∙ c.if-is_end.false) (sym c.is_wrong.ensures ∙ c.if-is_wrong.true))
+    (sym c.is_end.ensures ∙ c.if-is_end.false) (sym c.is_wrong.ensures ∙ c.if-is_wrong.true))
 
 pub returns-then-passes-clause-ok : goal.returns-then-passes-clause-ok
 unfolding left
@@ -30,7 +30,7 @@ returns-then-passes-clause-ok c =
     let token = c.take-token in
     ap (λ z. left_from z self.limits (state self) 0 (to_come self.tokens)) (sym token.ensures.source)
     ∙ passes token.new.self.source.now self.limits (state self) token.result _ _ token.ensures.next
-      (sym c.is_end.ensures ∙ c.if-is_end.false) (sym c.is_wrong.ensures ∙ c.if-is_wrong.false) (sym c.passes.ensures ∙ c.if-passes.true)
+    (sym c.is_end.ensures ∙ c.if-is_end.false) (sym c.is_wrong.ensures ∙ c.if-is_wrong.false) (sym c.passes.ensures ∙ c.if-passes.true)
 
 pub returns-then-passes-clause-fewer : goal.returns-then-passes-clause-fewer
 returns-then-passes-clause-fewer c =
@@ -44,8 +44,8 @@ returns-then-keeps-clause-ok c =
     let token = c.take-token in
     rw c.plain-then-keeps.ensures (ap (λ z. left_from z self.limits (state self) 0 (to_come self.tokens)) (sym token.ensures.source)
     ∙ keeps token.new.self.source.now self.limits (state self) token.result _ _ token.ensures.next
-      (sym c.is_end.ensures ∙ c.if-is_end.false) (sym c.is_wrong.ensures ∙ c.if-is_wrong.false) (sym c.passes.ensures ∙ c.if-passes.false)
-      (sym c.keeps.ensures ∙ c.if-keeps.true))
+    (sym c.is_end.ensures ∙ c.if-is_end.false) (sym c.is_wrong.ensures ∙ c.if-is_wrong.false) (sym c.passes.ensures ∙ c.if-passes.false)
+    (sym c.keeps.ensures ∙ c.if-keeps.true))
 
 pub returns-then-is_mark-clause-ok : goal.returns-then-is_mark-clause-ok
 unfolding left
@@ -54,11 +54,11 @@ returns-then-is_mark-clause-ok c =
     let token = c.take-token in
     let back = c.put_back.new.self in
     let turn = directs_back token.new.self.source.now self.limits (state self) token.result _ _ token.ensures.next (to_come back) back.source.now
-          c.put_back.ensures.to_come c.put_back.ensures.source
-          (sym c.is_end.ensures ∙ c.if-is_end.false) (sym c.is_wrong.ensures ∙ c.if-is_wrong.false) (sym c.passes.ensures ∙ c.if-passes.false)
-          (sym c.keeps.ensures ∙ c.if-keeps.false) (sym c.is_mark.ensures ∙ c.if-is_mark.true) in
+    c.put_back.ensures.to_come c.put_back.ensures.source
+    (sym c.is_end.ensures ∙ c.if-is_end.false) (sym c.is_wrong.ensures ∙ c.if-is_wrong.false) (sym c.passes.ensures ∙ c.if-passes.false)
+    (sym c.keeps.ensures ∙ c.if-keeps.false) (sym c.is_mark.ensures ∙ c.if-is_mark.true) in
     subst (λ z. IfOk c.obey.result (λ shown. z ≡ before shown (left c.obey.new.self)))
-      (sym (ap (λ z. left_from z self.limits (state self) 0 (to_come self.tokens)) (sym token.ensures.source) ∙ turn)) c.obey.ensures.ok
+    (sym (ap (λ z. left_from z self.limits (state self) 0 (to_come self.tokens)) (sym token.ensures.source) ∙ turn)) c.obey.ensures.ok
 
 pub returns-then-is_read-clause-ok : goal.returns-then-is_read-clause-ok
 unfolding left
@@ -67,8 +67,8 @@ returns-then-is_read-clause-ok c =
     let token = c.take-token in
     rw c.plain-then-is_read.ensures (ap (λ z. left_from z self.limits (state self) 0 (to_come self.tokens)) (sym token.ensures.source)
     ∙ shows_read token.new.self.source.now self.limits (state self) token.result _ _ token.ensures.next
-      (sym c.is_end.ensures ∙ c.if-is_end.false) (sym c.is_wrong.ensures ∙ c.if-is_wrong.false) (sym c.passes.ensures ∙ c.if-passes.false)
-      (sym c.keeps.ensures ∙ c.if-keeps.false) (sym c.is_mark.ensures ∙ c.if-is_mark.false) (sym c.is_read.ensures ∙ c.if-is_read.true))
+    (sym c.is_end.ensures ∙ c.if-is_end.false) (sym c.is_wrong.ensures ∙ c.if-is_wrong.false) (sym c.passes.ensures ∙ c.if-passes.false)
+    (sym c.keeps.ensures ∙ c.if-keeps.false) (sym c.is_mark.ensures ∙ c.if-is_mark.false) (sym c.is_read.ensures ∙ c.if-is_read.true))
 
 pub returns-clause-ok : goal.returns-clause-ok
 unfolding left
@@ -77,8 +77,8 @@ returns-clause-ok c =
     let token = c.take-token in
     ap (λ z. left_from z self.limits (state self) 0 (to_come self.tokens)) (sym token.ensures.source)
     ∙ passes_unread token.new.self.source.now self.limits (state self) token.result _ _ token.ensures.next
-      (sym c.is_end.ensures ∙ c.if-is_end.false) (sym c.is_wrong.ensures ∙ c.if-is_wrong.false) (sym c.passes.ensures ∙ c.if-passes.false)
-      (sym c.keeps.ensures ∙ c.if-keeps.false) (sym c.is_mark.ensures ∙ c.if-is_mark.false) (sym c.is_read.ensures ∙ c.if-is_read.false)
+    (sym c.is_end.ensures ∙ c.if-is_end.false) (sym c.is_wrong.ensures ∙ c.if-is_wrong.false) (sym c.passes.ensures ∙ c.if-passes.false)
+    (sym c.keeps.ensures ∙ c.if-keeps.false) (sym c.is_mark.ensures ∙ c.if-is_mark.false) (sym c.is_read.ensures ∙ c.if-is_read.false)
 
 pub returns-clause-fewer : goal.returns-clause-fewer
 returns-clause-fewer c =
@@ -92,7 +92,7 @@ returns-then-is_mark-clause-last_stays c =
     let token = c.take-token in
     let back = c.put_back.new.self in
     let same = left_again self.tokens.source.now self.limits (state self) token.result _ _ token.ensures.next (to_come back) back.source.now
-          c.put_back.ensures.to_come (c.put_back.ensures.source ∙ token.ensures.source) (sym c.is_end.ensures ∙ c.if-is_end.false) in
+    c.put_back.ensures.to_come (c.put_back.ensures.source ∙ token.ensures.source) (sym c.is_end.ensures ∙ c.if-is_end.false) in
     subst (λ z. IfOk c.obey.result (λ shown. IfSome shown (λ item. is_last item ≡ true → left c.obey.new.self ≡ z))) same c.obey.ensures.last_stays
 
 pub returns-then-is_mark-clause-fewer : goal.returns-then-is_mark-clause-fewer
@@ -110,5 +110,5 @@ returns-then-is_mark-clause-err c =
     let token = c.take-token in
     let back = c.put_back.new.self in
     let same = left_again self.tokens.source.now self.limits (state self) token.result _ _ token.ensures.next (to_come back) back.source.now
-          c.put_back.ensures.to_come (c.put_back.ensures.source ∙ token.ensures.source) (sym c.is_end.ensures ∙ c.if-is_end.false) in
+    c.put_back.ensures.to_come (c.put_back.ensures.source ∙ token.ensures.source) (sym c.is_end.ensures ∙ c.if-is_end.false) in
     subst (λ z. OnErr c.obey.result (left c.obey.new.self ≡ z)) same c.obey.ensures.err
