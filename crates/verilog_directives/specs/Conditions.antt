@@ -1,5 +1,5 @@
 -- Open conditions and their branches.
-use Rattle.std.specs.Prelude.{ℕ, Bool, true, false, if◌then◌else◌, List, [], ◌∷◌}
+use Rattle.std.specs.Prelude.{Bool, true, false, if◌then◌else◌, List, [], ◌∷◌}
 use Rattle.std.specs.List.{list_all}
 use Rattle.verilog_directives.specs.declared.condition.Branch.{Branch}
 use Rattle.verilog_directives.specs.declared.condition.Branch.TheVariants.{Waiting, Taken, Passed}
