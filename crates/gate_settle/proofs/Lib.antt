@@ -5,3 +5,4 @@ pub mod Moving
 pub mod Counting
 pub mod Reaching
 pub mod Joining
+pub mod Monotony

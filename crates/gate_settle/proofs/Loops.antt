@@ -280,7 +280,7 @@ pub after_length : (gates : List Gate) (b : Bool) (known : List Bool) → length
 after_length [] b known = refl
 after_length (g ∷ gates) b known = after_length gates b (marked g.outputs b known) ∙ marked_long g.outputs b known
 
-marked_other : (os : List ℕ) (b : Bool) (known : List Bool) (k : ℕ) → is_among os k ≡ false → is_known (marked os b known) k ≡ is_known known k
+pub marked_other : (os : List ℕ) (b : Bool) (known : List Bool) (k : ℕ) → is_among os k ≡ false → is_known (marked os b known) k ≡ is_known known k
 marked_other [] b known k h = refl
 marked_other (o ∷ os) b known k h =
     let i = neither (o == k) (is_among os k) h in

@@ -6,7 +6,8 @@ use Rattle.udp_table.specs.Table.{Table}
 use Rattle.gate_settle.specs.declared.gate.Gate.{Gate}
 use Rattle.gate_settle.specs.declared.gate.Given.{Given}
 use Rattle.gate_settle.specs.declared.gate.Given.TheVariants.{Pin, Fixed, Floating}
-use Rattle.gate_settle.specs.Gates.{value_at}
+use Rattle.tern_core.specs.Order.{IsAtMost, AreAtMost}
+use Rattle.gate_settle.specs.Gates.{value_at, table_value}
 use Rattle.gate_settle.specs.Settled.{AreSettled, AreStatesMoved}
 
 pub record Network : Type 0 where
@@ -41,3 +42,12 @@ pub record IsMoveOf (n : Network) (pins old_nets old_states new_nets new_states 
 -- for given pins and states there is just one settled assignment
 abbrev pub HasOneSettled : Network → Type 0
 HasOneSettled n = (pins states : List Tern) → (nets : List Tern) × IsSettled n pins states nets × ((others : List Tern) → IsSettled n pins states others → others ≡ nets)
+
+-- the combinational tables keep what was known, where more is known of their inputs
+abbrev pub AreMonotone : List Table → Type 0
+AreMonotone tables = (table : ℕ) (levels more_levels : List Tern) → AreAtMost levels more_levels → IsAtMost (table_value tables table levels) (table_value tables table more_levels)
+
+-- what was known of the nets stays, where more is known of pins and states
+abbrev pub KeepsKnown : Network → Type 0
+KeepsKnown n = (pins more_pins states more_states nets more_nets : List Tern) → AreAtMost pins more_pins → AreAtMost states more_states
+    → IsSettled n pins states nets → IsSettled n more_pins more_states more_nets → AreAtMost nets more_nets
