@@ -2,8 +2,8 @@
 use Rattle.std.proofs.Common.{◌≡◌, ℕ, suc, ◌+◌, ◌<◌, ◌≤◌, refl, sym, ◌∙◌, ap, true, false, List, [], ◌∷◌, ◌++◌, length, drop, drop-cons, add-one, get_or, Some, None, bytes_eq, append_assoc}
 use Rattle.std.proofs.lemmas.List.{drop_all}
 use Rattle.liberty_source.specs.declared.LibertyPin.{LibertyPin}
-use Rattle.liberty_meaning.specs.declared.program.Source.TheVariants as source
-use Rattle.liberty_meaning.specs.declared.scope.Named.{Named}
+use Rattle.liberty_function.specs.declared.program.Source.TheVariants as source
+use Rattle.liberty_function.specs.declared.scope.Named.{Named}
 use Rattle.liberty_meaning.specs.Names.{inputs_from, internals_of, states_from, place_from, internal_source, is_direction_input, is_direction_internal}
 
 pub next_item : {X : Type 0} (xs : List X) (i : ℕ) (x : X) → i < length xs → x ≡ get_or xs i x → drop i xs ≡ x ∷ drop (i + 1) xs

@@ -1,14 +1,11 @@
-pub mod Words
-pub mod Function
-pub mod Compiling
-pub mod Texts
-pub mod Pairs
 pub mod Names
 pub mod Meaning
+pub mod Pairs
 pub mod PairMeaning
 pub mod Symbols
 pub mod TableText
 pub mod Table
 pub mod TableMeaning
+pub mod Next
 pub mod Behaviour
 pub mod Cell

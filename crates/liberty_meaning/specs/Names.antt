@@ -1,14 +1,14 @@
 -- The names of a cell: input pins, internal pins, state variables, in this order.
-use Rattle.std.specs.Prelude.{ℕ, ◌+◌, Bool, true, false, if◌then◌else◌, List, [], ◌∷◌, ◌++◌, Option, Some, None, bytes_eq}
+use Rattle.std.specs.Prelude.{ℕ, ◌+◌, Bool, true, false, if◌then◌else◌, List, [], ◌∷◌, ◌++◌, filter, Option, Some, None, bytes_eq}
 use Rattle.text_scan.specs.declared.pins.Direction.{Direction}
 use Rattle.text_scan.specs.declared.pins.Direction.TheVariants as direction
 use Rattle.liberty_source.specs.declared.LibertyCell.{LibertyCell}
 use Rattle.liberty_source.specs.declared.LibertyPin.{LibertyPin}
 use Rattle.liberty_source.specs.declared.StateGroup.{StateGroup}
 use Rattle.liberty_source.specs.declared.StateGroup.TheVariants.{Stateless, Ff, Latch, Rows}
-use Rattle.liberty_meaning.specs.declared.program.Source.{Source}
-use Rattle.liberty_meaning.specs.declared.program.Source.TheVariants as source
-use Rattle.liberty_meaning.specs.declared.scope.Named.{Named}
+use Rattle.liberty_function.specs.declared.program.Source.{Source}
+use Rattle.liberty_function.specs.declared.program.Source.TheVariants as source
+use Rattle.liberty_function.specs.declared.scope.Named.{Named}
 
 abbrev pub is_direction_input : Direction → Bool
 is_direction_input direction.Input = true
@@ -33,6 +33,13 @@ is_direction_internal direction.Inout = false
 is_direction_internal direction.Feedthru = false
 is_direction_internal direction.Internal = true
 is_direction_internal direction.Absent = false
+
+-- the input pins and the output pins in the order of the file
+abbrev pub input_pins : List LibertyPin → List LibertyPin
+input_pins pins = filter (λ (p : LibertyPin). is_direction_input p.direction) pins
+
+abbrev pub output_pins : List LibertyPin → List LibertyPin
+output_pins pins = filter (λ (p : LibertyPin). is_direction_output p.direction) pins
 
 -- the input pins with their places among the inputs, counted from one on
 unfoldable pub inputs_from : ℕ → List LibertyPin → List Named

@@ -1,22 +1,23 @@
 //! From a cell to what it does.
 ghost use Rattle.std.specs.Prelude.{◌≡◌, MatchOption, Some, None};
 ghost use Rattle.liberty_meaning.specs.Cell as spec;
+ghost use Rattle.liberty_meaning.specs.TableMeaning.{IsTableAnswer};
 
 use crate::behaviour::{Behaviour, StateProgram};
-use crate::names::{inputs_scope, is_internal, nodes, place_of, scope_of, variables};
+use crate::names::{input_count, inputs_scope, is_internal, nodes, place_of, scope_of, variables};
 use crate::outputs::output_programs;
 use crate::pairs::{ff_programs, latch_programs};
 use crate::refusal::MeaningRefusal;
-use crate::scope::Scope;
 use crate::table::Table;
 use crate::table_rows::{columns_of, made_rows};
 use crate::table_text::rows_of_text;
+use liberty_function::Scope;
 use liberty_source::{LibertyCell, LibertyPin, RowsText, StateGroup};
 use std::alloc::Global;
 use text_scan::Text;
 
 fn table_of(alloc: Global, pins: &[LibertyPin], rows: &RowsText) -> Result<Table, MeaningRefusal>
-    ensures { spec.IsTableAnswer pins.now rows.now result }
+    ensures { IsTableAnswer pins.now rows.now result }
 {
     let inputs = inputs_scope(alloc, pins)?;
     let columns = columns_of(alloc, &inputs, rows.inputs.as_slice())?;
@@ -30,7 +31,7 @@ fn state_program(
     scope: &Scope,
     cell: &LibertyCell,
 ) -> Result<StateProgram, MeaningRefusal>
-    ensures { spec.IsStateAnswer scope.now.names cell.now.pins cell.now.state result }
+    ensures { spec.IsStateAnswer scope.now cell.now.pins cell.now.state result }
 {
     match &cell.state {
         StateGroup::Stateless => Ok(StateProgram::Nothing),
@@ -81,7 +82,7 @@ pub fn compile(alloc: Global, cell: &LibertyCell) -> Result<Behaviour, MeaningRe
     check_internals(alloc, nodes(&cell.state), pins)?;
     let outputs = output_programs(alloc, &scope, nodes(&cell.state), pins)?;
     Ok(Behaviour {
-        inputs: inputs_scope(alloc, pins)?.names.len(),
+        inputs: input_count(pins),
         states: variables(&cell.state).len(),
         state,
         outputs,

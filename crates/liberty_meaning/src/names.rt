@@ -1,12 +1,12 @@
 //! The names of a cell and their places.
-ghost use Rattle.std.specs.Prelude.{◌≡◌, ◌++◌, ◌∷◌, [], IfOk, OnOk};
+ghost use Rattle.std.specs.Prelude.{◌≡◌, ◌++◌, ◌∷◌, [], length, IfOk, OnOk};
 ghost use Rattle.liberty_meaning.specs.Names as spec;
+ghost use Rattle.liberty_meaning.specs.Names.{input_pins};
 
-use crate::program::Source;
-use crate::scope::{Named, Scope};
+use liberty_function::{Scope, Source};
 use liberty_source::{LibertyCell, LibertyPin, StateGroup};
 use std::alloc::Global;
-use text_scan::{Direction, Items, NoMemory, Text};
+use text_scan::{Direction, NoMemory, Text};
 
 pub(crate) fn is_input(pin: &LibertyPin) -> bool
     ensures { result ≡ spec.is_direction_input pin.now.direction }
@@ -71,27 +71,13 @@ fn internal_source(nodes: &[Text], node: &Option<Text>) -> Source
     }
 }
 
-fn push_named(
-    alloc: Global,
-    names: &mut Items<Named>,
-    name: &Text,
-    source: Source,
-) -> Result<(), NoMemory>
-    ensures { OnOk result (names.new ≡ names.old ++ (record { name = name.now; source = source }) ∷ []) }
-{
-    names.push(Named {
-        name: name.copied(alloc)?,
-        source,
-    })
-}
-
-fn push_inputs(alloc: Global, names: &mut Items<Named>, pins: &[LibertyPin]) -> Result<(), NoMemory>
+fn push_inputs(alloc: Global, names: &mut Scope, pins: &[LibertyPin]) -> Result<(), NoMemory>
     ensures { OnOk result (names.new ≡ names.old ++ spec.inputs_from 0 pins.now) }
 {
     let mut k: usize = 0;
     for pin in pins {
         if is_input(pin) {
-            push_named(alloc, names, &pin.name, Source::Input(k))?;
+            names.push(alloc, pin.name.as_bytes(), Source::Input(k))?;
             k += 1;
         }
     }
@@ -100,7 +86,7 @@ fn push_inputs(alloc: Global, names: &mut Items<Named>, pins: &[LibertyPin]) -> 
 
 fn push_internals(
     alloc: Global,
-    names: &mut Items<Named>,
+    names: &mut Scope,
     nodes: &[Text],
     pins: &[LibertyPin],
 ) -> Result<(), NoMemory>
@@ -108,42 +94,44 @@ fn push_internals(
 {
     for pin in pins {
         if is_internal(pin) {
-            push_named(
-                alloc,
-                names,
-                &pin.name,
-                internal_source(nodes, &pin.internal_node),
-            )?;
+            let source = internal_source(nodes, &pin.internal_node);
+            names.push(alloc, pin.name.as_bytes(), source)?;
         }
     }
     Ok(())
 }
 
-fn push_states(alloc: Global, names: &mut Items<Named>, variables: &[Text]) -> Result<(), NoMemory>
+fn push_states(alloc: Global, names: &mut Scope, variables: &[Text]) -> Result<(), NoMemory>
     ensures { OnOk result (names.new ≡ names.old ++ spec.states_from 0 variables.now) }
 {
     for (k, name) in variables.iter().enumerate() {
-        push_named(alloc, names, name, Source::State(k))?;
+        names.push(alloc, name.as_bytes(), Source::State(k))?;
     }
     Ok(())
 }
 
 pub(crate) fn scope_of(alloc: Global, cell: &LibertyCell) -> Result<Scope, NoMemory>
-    ensures { IfOk result (λ scope. scope.names ≡ spec.names_of cell.now) }
+    ensures { IfOk result (λ scope. scope ≡ spec.names_of cell.now) }
 {
     let pins = cell.pins.as_slice();
-    let mut names = Items::new(alloc);
+    let mut names = Scope::new(alloc);
     push_inputs(alloc, &mut names, pins)?;
     push_internals(alloc, &mut names, nodes(&cell.state), pins)?;
     push_states(alloc, &mut names, variables(&cell.state))?;
-    Ok(Scope { names })
+    Ok(names)
+}
+
+pub(crate) fn input_count(pins: &[LibertyPin]) -> usize
+    ensures { result ≡ length (input_pins pins.now) }
+{
+    pins.iter().filter(|pin| is_input(pin)).count()
 }
 
 /// The input pins alone.
 pub(crate) fn inputs_scope(alloc: Global, pins: &[LibertyPin]) -> Result<Scope, NoMemory>
-    ensures { IfOk result (λ scope. scope.names ≡ spec.inputs_from 0 pins.now) }
+    ensures { IfOk result (λ scope. scope ≡ spec.inputs_from 0 pins.now) }
 {
-    let mut names = Items::new(alloc);
+    let mut names = Scope::new(alloc);
     push_inputs(alloc, &mut names, pins)?;
-    Ok(Scope { names })
+    Ok(names)
 }

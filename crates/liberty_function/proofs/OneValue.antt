@@ -1,0 +1,27 @@
+-- A text spells at most one tree, so what it spells has one value.
+use Rattle.std.proofs.Common.{◌≡◌, ℕ, refl, sym, ◌∙◌, ap, List, [], Option, Some, None}
+use Rattle.tern_core.specs.declared.tern.Tern.TheVariants as tern
+use Rattle.liberty_function.specs.declared.words.Word.{Word}
+use Rattle.liberty_function.specs.Function.{Function, constant, value_of, IsFunction, HasOneValue}
+use Rattle.liberty_function.specs.Words.{words_of, bare}
+use Rattle.liberty_function.proofs.Machine.{Before, Machine, sum_of, begin, run}
+use Rattle.liberty_function.proofs.Completes.{goes, EndsSum}
+
+-- the tree of an operand and what stands before it
+abbrev operand_tree : Before → Option Function → Function
+operand_tree b None = constant tern.Unknown
+operand_tree b (Some f) = sum_of b f
+
+-- the tree that a machine has read
+abbrev read_tree : Option Machine → Function
+read_tree None = constant tern.Unknown
+read_tree (Some m) = operand_tree m.before m.operand
+
+read_is : (ts : List Word) (f : Function) → EndsSum [] ts f → read_tree (run begin ts) ≡ f
+read_is ts f r = ap read_tree r.comes ∙ r.value
+
+pub one_tree : (ts : List Word) (f g : Function) → IsFunction ts f → IsFunction ts g → f ≡ g
+one_tree ts f g h k = sym (read_is ts f (goes h [] refl)) ∙ read_is ts g (goes k [] refl)
+
+pub one_value : (text : List ℕ) → HasOneValue text
+one_value text f g h k names = ap (value_of names) (one_tree (bare (words_of text)) f g h k)
