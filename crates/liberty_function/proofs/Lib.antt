@@ -1,3 +1,4 @@
+pub mod Scoping
 pub mod Cutting
 pub mod Running
 pub mod Machine

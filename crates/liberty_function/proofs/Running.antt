@@ -1,15 +1,14 @@
-use Rattle.std.proofs.Common.{◌≡◌, ◌≢◌, ℕ, zero, suc, ◌+◌, ◌-◌, ◌<◌, ◌≤◌, refl, sym, ◌∙◌, ap, arith, Bool, true, false, List, [], ◌∷◌, length, get_or, set, drop, drop-cons, add-one, get_or-set_same, get_or-set_other, ◌&&◌, bytes_eq, if◌then◌else◌, Some, None}
+use Rattle.std.proofs.Common.{◌≡◌, ◌≢◌, ℕ, zero, suc, ◌+◌, ◌-◌, ◌<◌, ◌≤◌, refl, arith, Bool, true, false, List, [], ◌∷◌, length, get_or, set, drop, drop-cons, add-one, get_or-set_same, get_or-set_other, ◌&&◌}
 use Rattle.std.proofs.lemmas.List.{drop_all}
 use Rattle.std.proofs.lemmas.Bool.Decides.{nat_tests}
 use Rattle.tern_core.specs.declared.tern.Tern.{Tern}
 use Rattle.tern_core.specs.declared.tern.Tern.TheVariants as tern
 use Rattle.liberty_function.specs.Compiling.{first_values, fits, step_fits, held_after, after_steps, after_step}
-use Rattle.liberty_function.specs.Sources.{source_among, source_value}
+use Rattle.liberty_function.specs.Sources.{source_value}
 use Rattle.liberty_function.specs.declared.program.Source.{Source}
 use Rattle.liberty_function.specs.declared.program.Step.{Step}
 use Rattle.liberty_function.specs.declared.program.Step.TheVariants.{Push}
 use Rattle.liberty_function.specs.declared.function.Program.{Program}
-use Rattle.liberty_function.specs.declared.scope.Named.{Named}
 use Rattle.liberty_function.specs.Texts.{program_value}
 
 -- what is written above doesn't change what is held
@@ -65,26 +64,6 @@ unfolding after_steps
 leads_end v steps i stack h =
     let e : drop i steps ≡ [] = drop_all i steps h in
     rw e refl
-
-pub among_here : (names : List Named) (name : List ℕ) (i : ℕ) (d : Named) → i < length names → source_among (drop i names) name ≡ (if bytes_eq (get_or names i d).name name then Some (get_or names i d).source else source_among (drop (i + 1) names) name)
-unfolding source_among
-among_here names name i d h = rw (drop-cons names i d h, add-one) refl
-
-pub among_end : (names : List Named) (name : List ℕ) (i : ℕ) → length names ≤ i → source_among (drop i names) name ≡ None
-unfolding source_among
-among_end names name i h =
-    let e : drop i names ≡ [] = drop_all i names h in
-    rw e refl
-
-pub found_at : (names : List Named) (name : List ℕ) (i : ℕ) (item : Named) → i < length names → item ≡ get_or names i item → bytes_eq item.name name ≡ true → source_among (drop i names) name ≡ Some item.source
-found_at names name i item h is e =
-    let q : bytes_eq (get_or names i item).name name ≡ true = rw (← is) e in
-    among_here names name i item h ∙ (rw q (ap (λ (n : Named). Some n.source) (sym is)))
-
-pub not_at : (names : List Named) (name : List ℕ) (i : ℕ) (item : Named) → i < length names → item ≡ get_or names i item → bytes_eq item.name name ≡ false → source_among (drop i names) name ≡ source_among (drop (i + 1) names) name
-not_at names name i item h is e =
-    let q : bytes_eq (get_or names i item).name name ≡ false = rw (← is) e in
-    among_here names name i item h ∙ (rw q refl)
 
 -- the function of one source
 pub source_program : (p : Program) (s : Source) → p.steps ≡ Push s ∷ [] → (pins state : List Tern) → program_value p pins state ≡ source_value pins state s

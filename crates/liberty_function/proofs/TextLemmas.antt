@@ -7,11 +7,10 @@ use Rattle.liberty_function.specs.declared.words.Word.TheVariants.{Quote, Bang, 
 use Rattle.liberty_function.specs.declared.words.Placed.{Placed}
 use Rattle.liberty_function.specs.declared.program.Source.{Source}
 use Rattle.liberty_function.specs.declared.program.Step.{Step}
-use Rattle.liberty_function.specs.declared.scope.Named.{Named}
+use Rattle.liberty_function.specs.Sources.{Named, sources_of, source_value, source_among}
 use Rattle.liberty_function.specs.Words.{bare}
 use Rattle.liberty_function.specs.Function.{Function, IsFunction, IsFront, CannotFollow, value_of}
 use Rattle.liberty_function.specs.Compiling.{Standing, taken, finished, fits, last_value}
-use Rattle.liberty_function.specs.Sources.{sources_of, source_value, source_among}
 use Rattle.liberty_function.specs.Texts.{unknown_or, unknown_among, name_value, steps_value}
 use Rattle.liberty_function.proofs.Accepts.{IsAfter, after_more, after_front, stuck, finishes, too_early, fits_function, program_leaves, constant_value}
 use Rattle.liberty_function.proofs.Compiles.{program_of}

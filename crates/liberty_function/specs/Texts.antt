@@ -4,7 +4,7 @@ use Rattle.tern_core.specs.declared.tern.Tern.{Tern}
 use Rattle.liberty_function.specs.declared.words.Word.{Word}
 use Rattle.liberty_function.specs.declared.words.Word.TheVariants.{Name}
 use Rattle.liberty_function.specs.declared.program.Step.{Step}
-use Rattle.liberty_function.specs.declared.scope.Named.{Named}
+use Rattle.liberty_function.specs.Sources.{Named, source_among, sources_of, source_value}
 use Rattle.liberty_function.specs.declared.words.Placed.{Placed}
 use Rattle.liberty_function.specs.declared.function.Program.{Program}
 use Rattle.liberty_function.specs.declared.texts.TextRefusal.{TextRefusal}
@@ -12,7 +12,6 @@ use Rattle.liberty_function.specs.declared.texts.TextRefusal.TheVariants.{NoMemo
 use Rattle.liberty_function.specs.Words.{words_of, bare}
 use Rattle.liberty_function.specs.Function.{Function, value_of, SpellsText, IsBadAt, IsFunction, IsFront, CannotFollow}
 use Rattle.liberty_function.specs.Compiling.{after_steps, last_value, fits}
-use Rattle.liberty_function.specs.Sources.{source_among, sources_of, source_value}
 
 -- the value of a name, where these places have names; unknown where none has it
 abbrev pub name_value : List Named → List Tern → List Tern → List ℕ → Tern

@@ -3,39 +3,38 @@ ghost use Rattle.std.specs.Prelude.{◌≡◌, ◌++◌, ◌∷◌, [], OnOk, On
 ghost use Rattle.liberty_function.specs.Sources as spec;
 
 use crate::program::Source;
+use name_index::Names;
 use std::alloc::Global;
 use std::marker::Model;
-use text_scan::{Items, NoMemory, Text};
-
-/// A name and where its value comes from.
-#[derive(Drop)]
-pub(crate) struct Named {
-    pub(crate) name: Text,
-    pub(crate) source: Source,
-}
+use text_scan::NoMemory;
 
 /// Names and where their values come from. Of a name that stands twice the first counts.
 #[derive(Drop)]
 pub struct Scope {
-    names: Items<Named>,
+    names: Names,
+    sources: Vec<Source>,
 }
 
 impl Model for Scope {
-    ghost use Rattle.std.specs.Prelude.{List};
-    ghost use Rattle.liberty_function.specs.declared.scope.Named.{Named};
+    ghost use Rattle.std.specs.Prelude.{◌≡◌, List, length};
+    ghost use Rattle.liberty_function.specs.Sources.{Named, named_of};
 
     ghost Value = { List Named };
 
-    ghost view = { λ s. s.names };
+    ghost view = { λ s. named_of s.names s.sources.items };
+
+    ghost invariant = { λ s. length s.names ≡ length s.sources.items };
 }
 
 impl Scope {
     /// No names; takes no memory.
+    #[tactic(auto, unfolding(crate::specs::Sources::named_of))]
     pub fn new(alloc: Global) -> Scope
         ensures { result ≡ [] }
     {
         Scope {
-            names: Items::new(alloc),
+            names: Names::new(alloc),
+            sources: Vec::new(alloc),
         }
     }
 
@@ -44,20 +43,18 @@ impl Scope {
         ensures ok { OnOk result (self.new ≡ self.old ++ (record { name = name.now; source = source }) ∷ []) }
         ensures err { OnErr result (self.new ≡ self.old) }
     {
-        let name = Text::from_bytes(alloc, name)?;
-        self.names.push(Named { name, source })
+        self.sources.try_reserve(1)?;
+        self.names.push(alloc, name)?;
+        self.sources.push_reserved(source);
+        Ok(())
     }
 
     /// Where the value of the name comes from, where it is there.
     pub fn find(&self, name: &[u8]) -> Option<Source>
         ensures { result ≡ spec.source_among self.now name.now }
     {
-        for named in self.names.as_slice() {
-            if named.name.as_bytes() == name {
-                return Some(named.source);
-            }
-        }
-        None
+        let place = self.names.place_of(name)?;
+        Some(self.sources[place])
     }
 
     /// Unknown where no place has the name.

@@ -9,7 +9,7 @@ use Rattle.liberty_source.specs.declared.LibertyPin.{LibertyPin}
 use Rattle.liberty_source.specs.declared.StateGroup.{StateGroup}
 use Rattle.liberty_source.specs.declared.StateGroup.TheVariants.{Stateless, Ff, Latch, Rows}
 use Rattle.liberty_function.specs.declared.function.Program.{Program}
-use Rattle.liberty_function.specs.declared.scope.Named.{Named}
+use Rattle.liberty_function.specs.Sources.{Named}
 use Rattle.liberty_meaning.specs.declared.behaviour.Behaviour.{Behaviour}
 use Rattle.liberty_meaning.specs.declared.behaviour.StateProgram.{StateProgram}
 use Rattle.liberty_meaning.specs.declared.behaviour.StateProgram.TheVariants as program
@@ -17,7 +17,8 @@ use Rattle.liberty_meaning.specs.declared.pairs.PairPrograms.{PairPrograms}
 use Rattle.liberty_meaning.specs.declared.table.Table.{Table}
 use Rattle.liberty_meaning.specs.declared.refusal.MeaningRefusal.{MeaningRefusal}
 use Rattle.liberty_meaning.specs.declared.refusal.MeaningRefusal.TheVariants as refusal
-use Rattle.liberty_meaning.specs.Names.{names_of, nodes_of, variables_of, input_pins, output_pins, place_from, is_direction_internal}
+use Rattle.liberty_meaning.specs.Names.{names_of, nodes_of, variables_of, input_pins, output_pins, is_direction_internal}
+use Rattle.name_index.specs.Places.{place_of}
 use Rattle.liberty_meaning.specs.Meaning.{OutputsAre, IsOutput, UnlessMemory, RefusesOutputs}
 use Rattle.liberty_meaning.specs.PairMeaning.{NextPair, next_pair, IsFf, IsFfBy, IsLatch, IsLatchBy, IsGoodFfBy, IsGoodLatchBy}
 use Rattle.liberty_meaning.specs.TableMeaning.{AreColumns, AreRows}
@@ -87,11 +88,11 @@ found_if false n m more e = e
 
 known_node : (nodes : List (List ℕ)) (o more : Option (List ℕ)) → node_or nodes o None ≡ None → node_or nodes o more ≡ more
 known_node nodes None more e = refl
-known_node nodes (Some n) more e = known_if (is_some (place_from 0 nodes n)) n more e
+known_node nodes (Some n) more e = known_if (is_some (place_of nodes n)) n more e
 
 found_node : (nodes : List (List ℕ)) (o more : Option (List ℕ)) (m : List ℕ) → node_or nodes o None ≡ Some m → node_or nodes o more ≡ Some m
 found_node nodes None more m e = absurd (cc)
-found_node nodes (Some n) more m e = found_if (is_some (place_from 0 nodes n)) n m more e
+found_node nodes (Some n) more m e = found_if (is_some (place_of nodes n)) n m more e
 
 known_by : (t : Bool) (nodes : List (List ℕ)) (o more : Option (List ℕ)) → (if t then node_or nodes o None else None) ≡ None → (if t then node_or nodes o more else more) ≡ more
 known_by true nodes o more e = known_node nodes o more e

@@ -4,11 +4,12 @@ use Rattle.std.proofs.lemmas.List.{take_more, take-append-drop, take_all, append
 use Rattle.std.proofs.lemmas.List.Elements.{filter-append, All-nil, All-cons}
 use Rattle.liberty_source.specs.declared.LibertyPin.{LibertyPin}
 use Rattle.liberty_function.specs.declared.function.Program.{Program}
-use Rattle.liberty_function.specs.declared.scope.Named.{Named}
+use Rattle.liberty_function.specs.Sources.{Named}
 use Rattle.liberty_function.specs.Texts.{program_value}
 use Rattle.liberty_meaning.specs.declared.refusal.MeaningRefusal.{MeaningRefusal}
 use Rattle.liberty_meaning.specs.declared.refusal.MeaningRefusal.TheVariants as refusal
-use Rattle.liberty_meaning.specs.Names.{place_from, is_direction_output, output_pins}
+use Rattle.liberty_meaning.specs.Names.{is_direction_output, output_pins}
+use Rattle.name_index.specs.Places.{place_of}
 use Rattle.liberty_meaning.specs.Meaning.{Valuation, IsOutputBy, IsGoodOutputBy, OutputsAre, IsOutput, IsGoodOutput, RefusesOutput, RefusesOutputs, UnlessMemory, output_text}
 
 -- an output pin more, or another pin more
@@ -52,7 +53,7 @@ module _ (names : List Named) (nodes : List (List ℕ)) where
 
   good_by : (text shown : Option (List ℕ)) (v : Valuation) → IsOutputBy names nodes text shown v → IsGoodOutputBy names nodes text shown
   good_by (Some t) shown v h = (h.0, h.1)
-  good_by None (Some n) v h = found (place_from 0 nodes n) h.0 h.1
+  good_by None (Some n) v h = found (place_of nodes n) h.0 h.1
   good_by None None v h = tt
 
   -- outputs that have programs are good

@@ -2,7 +2,7 @@
 use Rattle.std.proofs.Common.{◌≡◌, ℕ, refl, List, ◌∷◌, Option}
 use Rattle.tern_core.specs.declared.tern.Tern.{Tern}
 use Rattle.liberty_source.specs.declared.Both.{Both}
-use Rattle.liberty_function.specs.declared.scope.Named.{Named}
+use Rattle.liberty_function.specs.Sources.{Named}
 use Rattle.liberty_function.specs.declared.function.Program.{Program}
 use Rattle.liberty_function.specs.Function.{Function}
 use Rattle.liberty_function.specs.Texts.{program_value}

@@ -5,12 +5,13 @@ use Rattle.tern_core.specs.declared.tern.Tern.TheVariants as tern
 use Rattle.liberty_source.specs.declared.LibertyCell.{LibertyCell}
 use Rattle.liberty_source.specs.declared.LibertyPin.{LibertyPin}
 use Rattle.liberty_source.specs.declared.StateGroup.{StateGroup}
-use Rattle.liberty_function.specs.declared.scope.Named.{Named}
+use Rattle.liberty_function.specs.Sources.{Named}
 use Rattle.liberty_meaning.specs.declared.behaviour.Behaviour.{Behaviour}
 use Rattle.liberty_meaning.specs.declared.behaviour.StateProgram.{StateProgram}
 use Rattle.liberty_meaning.specs.declared.refusal.MeaningRefusal.{MeaningRefusal}
 use Rattle.liberty_meaning.specs.declared.refusal.MeaningRefusal.TheVariants as refusal
-use Rattle.liberty_meaning.specs.Names.{names_of, nodes_of, variables_of, place_from, is_direction_internal, input_pins, output_pins}
+use Rattle.liberty_meaning.specs.Names.{names_of, nodes_of, variables_of, is_direction_internal, input_pins, output_pins}
+use Rattle.name_index.specs.Places.{place_of}
 use Rattle.liberty_meaning.specs.Meaning.{UnlessMemory, IsOutput, RefusesOutputs}
 use Rattle.liberty_meaning.specs.Next.{IsNext, IsGoodState, RefusesState}
 use Rattle.liberty_meaning.specs.Behaviour.{inputs_of, states_of, outputs_of, output_value, next_value_of, state_after}
@@ -21,7 +22,7 @@ IsStateAnswer names pins group (Err e) = UnlessMemory e (RefusesState names pins
 
 abbrev pub node_or : List (List ℕ) → Option (List ℕ) → Option (List ℕ) → Option (List ℕ)
 node_or nodes None more = more
-node_or nodes (Some n) more = if is_some (place_from 0 nodes n) then more else Some n
+node_or nodes (Some n) more = if is_some (place_of nodes n) then more else Some n
 
 abbrev pub internal_or : List (List ℕ) → LibertyPin → Option (List ℕ) → Option (List ℕ)
 internal_or nodes p more = if is_direction_internal p.direction then node_or nodes p.internal_node more else more

@@ -3,15 +3,15 @@ use Rattle.std.specs.Prelude.{◌≡◌, ℕ, true, List, [], ◌∷◌, ◌++�
 use Rattle.tern_core.specs.declared.tern.Tern.{Tern}
 use Rattle.tern_core.specs.declared.tern.Tern.TheVariants as tern
 use Rattle.liberty_source.specs.declared.LibertyPin.{LibertyPin}
-use Rattle.liberty_function.specs.declared.scope.Named.{Named}
+use Rattle.liberty_function.specs.Sources.{Named, value_at}
 use Rattle.liberty_function.specs.declared.function.Program.{Program}
 use Rattle.liberty_function.specs.Words.{words_of, bare}
 use Rattle.liberty_function.specs.Function.{Function, constant, value_of, SpellsText, IsBadAt}
 use Rattle.liberty_function.specs.Texts.{name_value, unknown_among, program_value}
-use Rattle.liberty_function.specs.Sources.{value_at}
 use Rattle.liberty_meaning.specs.declared.refusal.MeaningRefusal.{MeaningRefusal}
 use Rattle.liberty_meaning.specs.declared.refusal.MeaningRefusal.TheVariants as refusal
-use Rattle.liberty_meaning.specs.Names.{place_from, output_pins}
+use Rattle.liberty_meaning.specs.Names.{output_pins}
+use Rattle.name_index.specs.Places.{place_of}
 
 -- a number as a u32 tells it
 abbrev pub told : ℕ → ℕ
@@ -78,7 +78,7 @@ output_text p = text_or p.function p.state_function
 -- An output has its text's value, else that of the node that it shows, else none that is known.
 abbrev pub IsOutputBy : List Named → List (List ℕ) → Option (List ℕ) → Option (List ℕ) → Valuation → Type 0
 IsOutputBy names nodes (Some text) shown v = IsValueOf names (Some text) v
-IsOutputBy names nodes None (Some n) v = (k : ℕ) × (place_from 0 nodes n ≡ Some k) × ((pins state : List Tern) → v pins state ≡ value_at state k)
+IsOutputBy names nodes None (Some n) v = (k : ℕ) × (place_of nodes n ≡ Some k) × ((pins state : List Tern) → v pins state ≡ value_at state k)
 IsOutputBy names nodes None None v = (pins state : List Tern) → v pins state ≡ tern.Unknown
 
 abbrev pub IsOutput : List Named → List (List ℕ) → LibertyPin → Valuation → Type 0
@@ -87,7 +87,7 @@ IsOutput names nodes p v = IsOutputBy names nodes (output_text p) p.internal_nod
 -- nothing that an output uses is refused
 abbrev pub IsGoodOutputBy : List Named → List (List ℕ) → Option (List ℕ) → Option (List ℕ) → Type 0
 IsGoodOutputBy names nodes (Some text) shown = IsGood names (Some text)
-IsGoodOutputBy names nodes None (Some n) = is_some (place_from 0 nodes n) ≡ true
+IsGoodOutputBy names nodes None (Some n) = is_some (place_of nodes n) ≡ true
 IsGoodOutputBy names nodes None None = Unit {0}
 
 abbrev pub IsGoodOutput : List Named → List (List ℕ) → LibertyPin → Type 0
@@ -95,16 +95,16 @@ IsGoodOutput names nodes p = IsGoodOutputBy names nodes (output_text p) p.intern
 
 abbrev pub RefusesOutputBy : List Named → List (List ℕ) → List ℕ → Option (List ℕ) → Option (List ℕ) → MeaningRefusal → Type 0
 RefusesOutputBy names nodes owner (Some text) shown e = RefusesText names owner text e
-RefusesOutputBy names nodes owner None (Some n) e = (e ≡ refusal.UnknownName n) × (place_from 0 nodes n ≡ None)
+RefusesOutputBy names nodes owner None (Some n) e = (e ≡ refusal.UnknownName n) × (place_of nodes n ≡ None)
 RefusesOutputBy names nodes owner None None e = ⊥
 
 abbrev pub RefusesOutput : List Named → List (List ℕ) → LibertyPin → MeaningRefusal → Type 0
 RefusesOutput names nodes p e = RefusesOutputBy names nodes p.name (output_text p) p.internal_node e
 
 abbrev pub IsNodeAnswer : List (List ℕ) → Option (List ℕ) → Result Program MeaningRefusal → Type 0
-IsNodeAnswer nodes (Some n) (Ok p) = (k : ℕ) × (place_from 0 nodes n ≡ Some k) × ((pins state : List Tern) → program_value p pins state ≡ value_at state k)
+IsNodeAnswer nodes (Some n) (Ok p) = (k : ℕ) × (place_of nodes n ≡ Some k) × ((pins state : List Tern) → program_value p pins state ≡ value_at state k)
 IsNodeAnswer nodes None (Ok p) = (pins state : List Tern) → program_value p pins state ≡ tern.Unknown
-IsNodeAnswer nodes (Some n) (Err e) = UnlessMemory e ((e ≡ refusal.UnknownName n) × (place_from 0 nodes n ≡ None))
+IsNodeAnswer nodes (Some n) (Err e) = UnlessMemory e ((e ≡ refusal.UnknownName n) × (place_of nodes n ≡ None))
 IsNodeAnswer nodes None (Err e) = UnlessMemory e ⊥
 
 abbrev pub IsOutputAnswer : List Named → List (List ℕ) → LibertyPin → Result Program MeaningRefusal → Type 0

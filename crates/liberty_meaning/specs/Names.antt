@@ -1,5 +1,6 @@
 -- The names of a cell: input pins, internal pins, state variables, in this order.
-use Rattle.std.specs.Prelude.{ℕ, ◌+◌, Bool, true, false, if◌then◌else◌, List, [], ◌∷◌, ◌++◌, filter, Option, Some, None, bytes_eq}
+use Rattle.std.specs.Prelude.{ℕ, ◌+◌, Bool, true, false, if◌then◌else◌, List, [], ◌∷◌, ◌++◌, filter, Option, Some, None}
+use Rattle.name_index.specs.Places.{place_of}
 use Rattle.text_scan.specs.declared.pins.Direction.{Direction}
 use Rattle.text_scan.specs.declared.pins.Direction.TheVariants as direction
 use Rattle.liberty_source.specs.declared.LibertyCell.{LibertyCell}
@@ -8,7 +9,7 @@ use Rattle.liberty_source.specs.declared.StateGroup.{StateGroup}
 use Rattle.liberty_source.specs.declared.StateGroup.TheVariants.{Stateless, Ff, Latch, Rows}
 use Rattle.liberty_function.specs.declared.program.Source.{Source}
 use Rattle.liberty_function.specs.declared.program.Source.TheVariants as source
-use Rattle.liberty_function.specs.declared.scope.Named.{Named}
+use Rattle.liberty_function.specs.Sources.{Named}
 
 abbrev pub is_direction_input : Direction → Bool
 is_direction_input direction.Input = true
@@ -46,11 +47,6 @@ unfoldable pub inputs_from : ℕ → List LibertyPin → List Named
 inputs_from k [] = []
 inputs_from k (p ∷ pins) = if is_direction_input p.direction then record { name = p.name; source = source.Input k } ∷ inputs_from (k + 1) pins else inputs_from k pins
 
--- the first place of a name in a list, counted from one on
-unfoldable pub place_from : ℕ → List (List ℕ) → List ℕ → Option ℕ
-place_from k [] name = None
-place_from k (n ∷ names) name = if bytes_eq n name then Some k else place_from (k + 1) names name
-
 abbrev pub node_source : Option ℕ → Source
 node_source None = source.Unknown
 node_source (Some k) = source.State k
@@ -58,7 +54,7 @@ node_source (Some k) = source.State k
 -- an internal pin shows a node of the table, or nothing that is known
 abbrev pub internal_source : List (List ℕ) → Option (List ℕ) → Source
 internal_source nodes None = source.Unknown
-internal_source nodes (Some n) = node_source (place_from 0 nodes n)
+internal_source nodes (Some n) = node_source (place_of nodes n)
 
 unfoldable pub internals_of : List (List ℕ) → List LibertyPin → List Named
 internals_of nodes [] = []

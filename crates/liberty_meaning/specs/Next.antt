@@ -6,8 +6,7 @@ use Rattle.liberty_source.specs.declared.LibertyPin.{LibertyPin}
 use Rattle.liberty_source.specs.declared.StateGroup.{StateGroup}
 use Rattle.liberty_source.specs.declared.StateGroup.TheVariants.{Stateless, Ff, Latch, Rows}
 use Rattle.liberty_function.specs.declared.program.Source.{Source}
-use Rattle.liberty_function.specs.declared.scope.Named.{Named}
-use Rattle.liberty_function.specs.Sources.{value_at}
+use Rattle.liberty_function.specs.Sources.{Named, value_at}
 use Rattle.liberty_meaning.specs.declared.pair.Pair.{Pair}
 use Rattle.liberty_meaning.specs.declared.symbols.Symbol.{Symbol}
 use Rattle.liberty_meaning.specs.declared.table.Row.{Row}

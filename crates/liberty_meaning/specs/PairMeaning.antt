@@ -4,10 +4,9 @@ use Rattle.tern_core.specs.declared.tern.Tern.{Tern}
 use Rattle.liberty_source.specs.declared.Both.{Both}
 use Rattle.liberty_source.specs.declared.FfText.{FfText}
 use Rattle.liberty_source.specs.declared.LatchText.{LatchText}
-use Rattle.liberty_function.specs.declared.scope.Named.{Named}
+use Rattle.liberty_function.specs.Sources.{Named, value_at}
 use Rattle.liberty_function.specs.Function.{Function}
 use Rattle.liberty_function.specs.Texts.{program_value}
-use Rattle.liberty_function.specs.Sources.{value_at}
 use Rattle.liberty_meaning.specs.declared.pair.Pair.{Pair}
 use Rattle.liberty_meaning.specs.declared.pairs.Kind.{Kind}
 use Rattle.liberty_meaning.specs.declared.pairs.Kind.TheVariants.{Clocked, Latched}

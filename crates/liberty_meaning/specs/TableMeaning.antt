@@ -1,7 +1,7 @@
 -- The table that a statetable's text gives, and what is refused in it.
 use Rattle.std.specs.Prelude.{◌≡◌, ℕ, ◌+◌, List, [], ◌∷◌, ◌++◌, length, Option, Some, None, Result, Ok, Err, ◌⊎◌}
 use Rattle.liberty_function.specs.declared.program.Source.{Source}
-use Rattle.liberty_function.specs.declared.scope.Named.{Named}
+use Rattle.liberty_function.specs.Sources.{Named, source_among}
 use Rattle.liberty_source.specs.declared.LibertyPin.{LibertyPin}
 use Rattle.liberty_source.specs.declared.RowsText.{RowsText}
 use Rattle.liberty_meaning.specs.declared.table.Row.{Row}
@@ -9,7 +9,6 @@ use Rattle.liberty_meaning.specs.declared.table.Table.{Table}
 use Rattle.liberty_meaning.specs.declared.table_text.RowWords.{RowWords}
 use Rattle.liberty_meaning.specs.declared.refusal.MeaningRefusal.{MeaningRefusal}
 use Rattle.liberty_meaning.specs.declared.refusal.MeaningRefusal.TheVariants as refusal
-use Rattle.liberty_function.specs.Sources.{source_among}
 use Rattle.liberty_meaning.specs.Names.{inputs_from}
 use Rattle.liberty_meaning.specs.Table.{made}
 use Rattle.liberty_meaning.specs.TableText.{rows_of}

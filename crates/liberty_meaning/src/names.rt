@@ -5,6 +5,7 @@ ghost use Rattle.liberty_meaning.specs.Names.{input_pins};
 
 use liberty_function::{Scope, Source};
 use liberty_source::{LibertyCell, LibertyPin, StateGroup};
+use name_index::Names;
 use std::alloc::Global;
 use text_scan::{Direction, NoMemory, Text};
 
@@ -26,20 +27,19 @@ pub(crate) fn is_internal(pin: &LibertyPin) -> bool
     matches!(pin.direction, Direction::Internal)
 }
 
-/// The place of the first text that is the name.
-pub(crate) fn place_of(names: &[Text], name: &[u8]) -> Option<usize>
-    ensures { result ≡ spec.place_from 0 names.now name.now }
+/// The texts as names that can be looked up.
+pub(crate) fn indexed(alloc: Global, texts: &[Text]) -> Result<Names, NoMemory>
+    ensures { IfOk result (λ names. names ≡ texts.now) }
 {
-    for (k, text) in names.iter().enumerate() {
-        if text.as_bytes() == name {
-            return Some(k);
-        }
+    let mut names = Names::new(alloc);
+    for text in texts {
+        names.push(alloc, text.as_bytes())?;
     }
-    None
+    Ok(names)
 }
 
 /// The nodes of a table; none where the cell has no table.
-pub(crate) fn nodes(state: &StateGroup) -> &[Text]
+pub(crate) fn table_nodes(state: &StateGroup) -> &[Text]
     ensures { result.now ≡ spec.nodes_of state.now }
 {
     match state {
@@ -59,11 +59,11 @@ pub(crate) fn variables(state: &StateGroup) -> &[Text]
     }
 }
 
-fn internal_source(nodes: &[Text], node: &Option<Text>) -> Source
+fn internal_source(nodes: &Names, node: &Option<Text>) -> Source
     ensures { result ≡ spec.internal_source nodes.now node.now }
 {
     match node {
-        Some(name) => match place_of(nodes, name.as_bytes()) {
+        Some(name) => match nodes.place_of(name.as_bytes()) {
             Some(k) => Source::State(k),
             None => Source::Unknown,
         },
@@ -87,7 +87,7 @@ fn push_inputs(alloc: Global, names: &mut Scope, pins: &[LibertyPin]) -> Result<
 fn push_internals(
     alloc: Global,
     names: &mut Scope,
-    nodes: &[Text],
+    nodes: &Names,
     pins: &[LibertyPin],
 ) -> Result<(), NoMemory>
     ensures { OnOk result (names.new ≡ names.old ++ spec.internals_of nodes.now pins.now) }
@@ -110,13 +110,15 @@ fn push_states(alloc: Global, names: &mut Scope, variables: &[Text]) -> Result<(
     Ok(())
 }
 
-pub(crate) fn scope_of(alloc: Global, cell: &LibertyCell) -> Result<Scope, NoMemory>
+/// All names of the cell, whose table has these nodes.
+pub(crate) fn scope_of(alloc: Global, nodes: &Names, cell: &LibertyCell) -> Result<Scope, NoMemory>
+    requires { nodes.now ≡ spec.nodes_of cell.now.state }
     ensures { IfOk result (λ scope. scope ≡ spec.names_of cell.now) }
 {
     let pins = cell.pins.as_slice();
     let mut names = Scope::new(alloc);
     push_inputs(alloc, &mut names, pins)?;
-    push_internals(alloc, &mut names, nodes(&cell.state), pins)?;
+    push_internals(alloc, &mut names, nodes, pins)?;
     push_states(alloc, &mut names, variables(&cell.state))?;
     Ok(names)
 }

@@ -2,10 +2,11 @@
 ghost use Rattle.std.specs.Prelude.{◌≡◌, Some};
 ghost use Rattle.liberty_meaning.specs.Meaning as spec;
 
-use crate::names::{is_output, place_of};
+use crate::names::is_output;
 use crate::refusal::MeaningRefusal;
 use liberty_function::{Program, Scope, Source, TextRefusal, compile_text};
 use liberty_source::LibertyPin;
+use name_index::Names;
 use std::alloc::Global;
 use text_scan::{Items, Text};
 
@@ -56,14 +57,14 @@ pub(crate) fn optional_program(
 
 fn node_program(
     alloc: Global,
-    nodes: &[Text],
+    nodes: &Names,
     node: &Option<Text>,
 ) -> Result<Program, MeaningRefusal>
     ensures { spec.IsNodeAnswer nodes.now node.now result }
 {
     match node {
         None => Ok(Program::of_source(alloc, Source::Unknown)?),
-        Some(name) => match place_of(nodes, name.as_bytes()) {
+        Some(name) => match nodes.place_of(name.as_bytes()) {
             Some(k) => Ok(Program::of_source(alloc, Source::State(k))?),
             None => Err(MeaningRefusal::UnknownName(name.copied(alloc)?)),
         },
@@ -73,7 +74,7 @@ fn node_program(
 fn output_program(
     alloc: Global,
     scope: &Scope,
-    nodes: &[Text],
+    nodes: &Names,
     pin: &LibertyPin,
 ) -> Result<Program, MeaningRefusal>
     ensures { spec.IsOutputAnswer scope.now nodes.now pin.now result }
@@ -90,7 +91,7 @@ fn output_program(
 pub(crate) fn output_programs(
     alloc: Global,
     scope: &Scope,
-    nodes: &[Text],
+    nodes: &Names,
     pins: &[LibertyPin],
 ) -> Result<Items<Program>, MeaningRefusal>
     ensures { spec.IsOutputsAnswer scope.now nodes.now pins.now result }
