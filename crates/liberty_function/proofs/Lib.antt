@@ -8,3 +8,4 @@ pub mod Completes
 pub mod Accepts
 pub mod TextLemmas
 pub mod OneValue
+pub mod Order
