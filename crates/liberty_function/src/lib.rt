@@ -15,3 +15,6 @@ pub use program::{Source, source_value, value_at};
 pub use scope::Scope;
 pub use texts::{TextRefusal, compile_text};
 pub use words::is_blank;
+
+#[cfg(test)]
+mod tests;
