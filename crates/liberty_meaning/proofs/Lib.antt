@@ -6,3 +6,6 @@ pub mod TableLemmas
 pub mod RowLemmas
 pub mod Writing
 pub mod CellLemmas
+pub mod Meanings
+pub mod Keeping
+pub mod Losing

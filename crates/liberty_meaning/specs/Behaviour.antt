@@ -1,5 +1,5 @@
 -- What the calls of a compiled cell answer.
-use Rattle.std.specs.Prelude.{ℕ, zero, suc, ◌+◌, List, [], ◌∷◌, length, slice_get, Option, Some, None}
+use Rattle.std.specs.Prelude.{◌≡◌, ℕ, zero, suc, ◌+◌, List, [], ◌∷◌, length, slice_get, Option, Some, None}
 use Rattle.tern_core.specs.declared.tern.Tern.{Tern}
 use Rattle.tern_core.specs.declared.tern.Tern.TheVariants as tern
 use Rattle.liberty_function.specs.declared.function.Program.{Program}
@@ -48,3 +48,12 @@ values_from f k (suc n) = f k ∷ values_from f (k + 1) n
 -- the state after the input pins have changed from old to new
 abbrev pub next_state : Behaviour → List Tern → List Tern → List Tern → List Tern
 next_state b old new state = values_from (λ k. next_value_of b old new state k) 0 (length state)
+
+-- a state that stays where the pins don't change
+abbrev pub IsAtRest : Behaviour → List Tern → List Tern → Type 0
+IsAtRest b pins state = next_state b pins pins state ≡ state
+
+-- the state after the pins were said to be as they are so many times
+abbrev pub after_times : Behaviour → List Tern → ℕ → List Tern → List Tern
+after_times b pins zero state = state
+after_times b pins (suc n) state = next_state b pins pins (after_times b pins n state)

@@ -9,3 +9,5 @@ pub mod TableMeaning
 pub mod Next
 pub mod Behaviour
 pub mod Cell
+pub mod Groups
+pub mod Known

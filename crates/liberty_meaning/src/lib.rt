@@ -3,6 +3,7 @@
 
 mod behaviour;
 mod cell;
+pub mod laws;
 mod names;
 mod outputs;
 mod pair;
