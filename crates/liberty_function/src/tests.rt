@@ -45,7 +45,7 @@ fn a_refused_text_tells_why(rt: HostRuntime) -> Result<(), Fail> {
         _ => assert!(rt; false),
     }
     match compile_text(alloc, &scope, b"A D C") {
-        Err(TextRefusal::UnknownName(name)) => assert_eq!(rt; name.as_bytes(), b"D".as_slice()),
+        Err(TextRefusal::UnknownName(name)) => assert!(rt; name.as_bytes() == b"D".as_slice()),
         _ => assert!(rt; false),
     }
     Ok(())

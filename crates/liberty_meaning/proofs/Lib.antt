@@ -9,3 +9,4 @@ pub mod CellLemmas
 pub mod Meanings
 pub mod Keeping
 pub mod Losing
+pub mod Resting

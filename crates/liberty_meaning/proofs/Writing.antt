@@ -20,7 +20,7 @@ written_more f old now k v h e w = record {
   left = λ j l. let ne : j ≢ k = omega arith in get_or-set_other now k j v tern.Unknown ne ∙ w.left j (omega arith);
 }
 
-values_are : (xs : List Tern) (f : ℕ → Tern) (j : ℕ) → ((k : ℕ) → k < length xs → value_at xs k ≡ f (j + k)) → xs ≡ values_from f j (length xs)
+pub values_are : (xs : List Tern) (f : ℕ → Tern) (j : ℕ) → ((k : ℕ) → k < length xs → value_at xs k ≡ f (j + k)) → xs ≡ values_from f j (length xs)
 unfolding values_from
 values_are [] f j h = refl
 values_are (x ∷ xs) f j h =

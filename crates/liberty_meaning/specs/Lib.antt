@@ -11,3 +11,4 @@ pub mod Behaviour
 pub mod Cell
 pub mod Groups
 pub mod Known
+pub mod Rest

@@ -1,5 +1,5 @@
 //! Laws of cells. Each function's contract is the law; it does nothing.
-ghost use Rattle.std.specs.Prelude.{◌≡◌, ℕ, true, List, Some, slice_get};
+ghost use Rattle.std.specs.Prelude.{◌≡◌, ℕ, true, List, Some, length, slice_get};
 ghost use Rattle.tern_core.specs.declared.tern.Tern.{Tern};
 ghost use Rattle.liberty_source.specs.declared.FfText.{FfText};
 ghost use Rattle.liberty_source.specs.declared.LatchText.{LatchText};
@@ -17,7 +17,8 @@ ghost use Rattle.liberty_meaning.specs.Meaning.{values_of, output_text};
 ghost use Rattle.liberty_meaning.specs.PairMeaning.{Functions, pair_after};
 ghost use Rattle.liberty_meaning.specs.Table.{first_matching};
 ghost use Rattle.liberty_meaning.specs.Next.{pair_value, row_value};
-ghost use Rattle.liberty_meaning.specs.Behaviour.{output_value, next_value_of};
+ghost use Rattle.liberty_meaning.specs.Behaviour.{output_value, next_value_of, IsAtRest, after_times};
+ghost use Rattle.liberty_meaning.specs.Rest.{FlipFlopRests, LatchRests, TableRests};
 ghost use Rattle.liberty_meaning.specs.Cell.{Means};
 ghost use Rattle.liberty_meaning.specs.Known.{OutputKeeps, NextKeeps, may_rise, ClockedKeeps, TableKeeps, LosesAtRise, LosesAtKnown};
 ghost use Rattle.liberty_meaning.specs.Groups.{IsStateless, IsFlipFlop, IsLatched, IsTable};
@@ -62,4 +63,19 @@ pub fn monotone()
 pub fn not_monotone()
     ensures flip_flop { (before after : Tern) → may_rise before after ≡ true → LosesAtRise before after }
     ensures table { LosesAtKnown }
+{}
+
+/// A state at rest stays, however often it is asked for with the same pins. Which states are at rest: each one of a cell
+/// without a state group; of a flip-flop and of a latch those whose pair is kept; of a table those whose row keeps them.
+pub fn at_rest()
+    ensures lasts { (b : Behaviour) (pins state : List Tern) → IsAtRest b pins state →
+        (n : ℕ) → after_times b pins n state ≡ state }
+    ensures stateless { (cell : LibertyCell) (b : Behaviour) → IsStateless cell b →
+        (pins state : List Tern) → IsAtRest b pins state }
+    ensures flip_flop { (cell : LibertyCell) (ff : FfText) (fs : Functions) (b : Behaviour) → IsFlipFlop cell ff fs b →
+        (pins state : List Tern) → length state ≡ 2 → FlipFlopRests (names_of cell) fs ff.both b pins state }
+    ensures latch { (cell : LibertyCell) (latch : LatchText) (fs : Functions) (b : Behaviour) → IsLatched cell latch fs b →
+        (pins state : List Tern) → length state ≡ 2 → LatchRests (names_of cell) fs latch.both b pins state }
+    ensures table { (cell : LibertyCell) (r : RowsText) (columns : List Source) (rows : List Row) (b : Behaviour) →
+        IsTable cell r columns rows b → (pins state : List Tern) → TableRests columns rows b pins state }
 {}
