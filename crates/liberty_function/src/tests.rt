@@ -42,11 +42,11 @@ fn a_refused_text_tells_why(rt: HostRuntime) -> Result<(), Fail> {
     let scope = scope(alloc)?;
     match compile_text(alloc, &scope, b"D*(A+)") {
         Err(TextRefusal::BadFunction(place)) => assert_eq!(rt; place, 5),
-        _ => assert!(rt; false),
+        _answer => assert!(rt; false),
     }
     match compile_text(alloc, &scope, b"A D C") {
         Err(TextRefusal::UnknownName(name)) => assert!(rt; name.as_bytes() == b"D".as_slice()),
-        _ => assert!(rt; false),
+        _answer => assert!(rt; false),
     }
     Ok(())
 }
