@@ -1,8 +1,10 @@
--- A text spells at most one tree, so what it spells has one value.
-use Rattle.std.proofs.Common.{◌≡◌, ℕ, refl, sym, ◌∙◌, ap, List, [], Option, Some, None}
+-- A text spells at most one tree, so what it spells has one value; a text that is refused spells none.
+use Rattle.std.proofs.Common.{◌≡◌, ℕ, refl, sym, ◌∙◌, ap, subst, List, [], ◌∷◌, ◌++◌, length, Option, Some, None, append_assoc}
+use Rattle.std.proofs.lemmas.List.{append-nil, map-append}
 use Rattle.tern_core.specs.declared.tern.Tern.TheVariants as tern
 use Rattle.liberty_function.specs.declared.words.Word.{Word}
-use Rattle.liberty_function.specs.Function.{Function, constant, value_of, IsFunction, HasOneValue}
+use Rattle.liberty_function.specs.declared.words.Placed.{Placed}
+use Rattle.liberty_function.specs.Function.{Function, constant, value_of, IsFunction, SpellsText, IsBadAt, CannotFollow, HasOneValue}
 use Rattle.liberty_function.specs.Words.{words_of, bare}
 use Rattle.liberty_function.proofs.Machine.{Before, Machine, sum_of, begin, run}
 use Rattle.liberty_function.proofs.Completes.{goes, EndsSum}
@@ -25,3 +27,12 @@ one_tree ts f g h k = sym (read_is ts f (goes h [] refl)) ∙ read_is ts g (goes
 
 pub one_value : (text : List ℕ) → HasOneValue text
 one_value text f g h k names = ap (value_of names) (one_tree (bare (words_of text)) f g h k)
+
+cannot_follow : (text : List ℕ) (before rest : List Placed) (end place : ℕ) (f : Function) → words_of text ≡ before ++ rest → CannotFollow (bare before) rest end place → SpellsText text f → ⊥
+cannot_follow text before [] end place f w c h = c.1 f (subst (λ k. IsFunction (bare k) f) (w ∙ append-nil before) h)
+cannot_follow text before (p ∷ rest) end place f w c h =
+    let e : bare (words_of text) ≡ (bare before ++ p.word ∷ []) ++ bare rest = ap bare w ∙ map-append (λ (q : Placed). q.word) before (p ∷ rest) ∙ sym (append_assoc (bare before) (p.word ∷ []) (bare rest)) in
+    c.1 (bare rest, f, subst (λ k. IsFunction k f) e h)
+
+pub bad_spells_nothing : (text : List ℕ) (place : ℕ) (f : Function) → IsBadAt text place → SpellsText text f → ⊥
+bad_spells_nothing text place f b h = cannot_follow text b.0 b.1 (length text) place f b.2 b.4 h

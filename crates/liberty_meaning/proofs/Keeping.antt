@@ -1,8 +1,8 @@
 -- What becomes more known of the pins and the state keeps what was known of a cell.
-use Rattle.std.proofs.Common.{◌≡◌, ℕ, zero, suc, ◌+◌, refl, sym, ◌∙◌, ap, subst, Bool, true, false, if◌then◌else◌, List, [], ◌∷◌, length, Option, Some, None, slice_get, ◌⊎◌, inl, inr, ◌==◌}
+use Rattle.std.proofs.Common.{◌≡◌, ℕ, zero, suc, ◌+◌, refl, sym, ap, subst, Bool, true, false, if◌then◌else◌, List, [], ◌∷◌, length, Option, Some, None, slice_get, ◌⊎◌, inl, inr, ◌==◌}
 use Rattle.tern_core.specs.declared.tern.Tern.{Tern}
 use Rattle.tern_core.specs.declared.tern.Tern.TheVariants.{Zero, One, Unknown}
-use Rattle.tern_core.specs.Values.{not_of, common_of}
+use Rattle.tern_core.specs.Values.{common_of}
 use Rattle.tern_core.specs.Order.{IsAtMost, AreAtMost}
 use Rattle.tern_core.proofs.Lists.{same, through}
 use Rattle.liberty_source.specs.declared.Both.{Both}
@@ -13,7 +13,7 @@ use Rattle.liberty_source.specs.declared.RowsText.{RowsText}
 use Rattle.liberty_source.specs.declared.LibertyCell.{LibertyCell}
 use Rattle.liberty_source.specs.declared.LibertyPin.{LibertyPin}
 use Rattle.liberty_function.specs.declared.program.Source.{Source}
-use Rattle.liberty_function.specs.Function.{Function, constant, value_of}
+use Rattle.liberty_function.specs.Function.{Function}
 use Rattle.liberty_function.specs.Sources.{Named, value_at}
 use Rattle.liberty_function.specs.Texts.{name_value}
 use Rattle.liberty_function.proofs.Order.{not_more, common_more, value_more, function_more, name_more}
@@ -24,18 +24,17 @@ use Rattle.liberty_meaning.specs.declared.symbols.Symbol.TheVariants as symbol
 use Rattle.liberty_meaning.specs.declared.table.Row.{Row}
 use Rattle.liberty_meaning.specs.declared.behaviour.Behaviour.{Behaviour}
 use Rattle.liberty_meaning.specs.Names.{names_of, nodes_of, output_pins}
-use Rattle.liberty_meaning.specs.Meaning.{Valuation, values_of, IsFunctionOf, IsOutputBy, output_text}
-use Rattle.liberty_meaning.specs.Pairs.{pair, taken_in, common_pair, clocked_pair, latched_pair, Outcomes, controlled, controlled_pair, both_value, both_at, chosen}
+use Rattle.liberty_meaning.specs.Meaning.{Valuation, values_of, IsOutputBy, output_text}
+use Rattle.liberty_meaning.specs.Pairs.{taken_in, common_pair, clocked_pair, latched_pair, Outcomes, controlled, controlled_pair, both_value, both_at, chosen}
 use Rattle.liberty_meaning.specs.PairMeaning.{Functions, pair_of, pair_after}
 use Rattle.liberty_meaning.specs.Symbols.{next_value}
-use Rattle.liberty_meaning.specs.Table.{first_matching}
 use Rattle.liberty_meaning.specs.Next.{pair_value, row_value, symbol_value}
 use Rattle.liberty_meaning.specs.Behaviour.{output_value, next_value_of, next_state, values_from}
 use Rattle.liberty_meaning.specs.Cell.{Means}
 use Rattle.liberty_meaning.specs.Groups.{IsStateless, IsFlipFlop, IsLatched, IsTable}
-use Rattle.liberty_meaning.specs.Known.{IsPairAtMost, OutputKeeps, NextKeeps, may_rise, StaysFlat, ClockedKeeps, IsDecidedOnce, TableKeeps}
+use Rattle.liberty_meaning.specs.Known.{IsPairAtMost, OutputKeeps, NextKeeps, may_rise, StaysFlat, ClockedKeeps, TableKeeps}
 use Rattle.liberty_meaning.proofs.Controls.{chosen_twice}
-use Rattle.liberty_meaning.proofs.Meanings.{same_function, stateless_answers, flip_flop_answers, latch_answers, table_answers}
+use Rattle.liberty_meaning.proofs.Meanings.{stateless_answers, flip_flop_answers, latch_answers, table_answers}
 
 common_left : (a b : Tern) → IsAtMost (common_of a b) a
 common_left Zero Zero = refl

@@ -10,3 +10,4 @@ pub mod Meanings
 pub mod Keeping
 pub mod Losing
 pub mod Resting
+pub mod Exactly

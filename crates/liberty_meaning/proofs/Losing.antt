@@ -1,5 +1,5 @@
 -- Where what becomes more known does not keep what was known.
-use Rattle.std.proofs.Common.{◌≡◌, ◌∙◌, ap, ℕ, refl, codes, Bool, true, false, List, [], ◌∷◌, Some}
+use Rattle.std.proofs.Common.{◌≡◌, ◌∙◌, ap, refl, codes, true, List, [], ◌∷◌}
 use Rattle.tern_core.specs.declared.tern.Tern.{Tern}
 use Rattle.tern_core.specs.declared.tern.Tern.TheVariants.{Zero, One, Unknown}
 use Rattle.liberty_function.specs.declared.program.Source.TheVariants as source

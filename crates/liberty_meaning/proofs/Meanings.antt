@@ -1,5 +1,5 @@
 -- What the calls of a compiled cell answer, in the cell's own functions and rows.
-use Rattle.std.proofs.Common.{◌≡◌, ℕ, refl, sym, ◌∙◌, ap, subst, List, [], ◌∷◌, Option, Some, None, slice_get}
+use Rattle.std.proofs.Common.{◌≡◌, ℕ, sym, ◌∙◌, ap, subst, List, Option, Some, None, slice_get}
 use Rattle.tern_core.specs.declared.tern.Tern.{Tern}
 use Rattle.liberty_source.specs.declared.Both.{Both}
 use Rattle.liberty_source.specs.declared.FfText.{FfText}
@@ -7,8 +7,7 @@ use Rattle.liberty_source.specs.declared.LatchText.{LatchText}
 use Rattle.liberty_source.specs.declared.RowsText.{RowsText}
 use Rattle.liberty_source.specs.declared.LibertyCell.{LibertyCell}
 use Rattle.liberty_source.specs.declared.LibertyPin.{LibertyPin}
-use Rattle.liberty_source.specs.declared.StateGroup.{StateGroup}
-use Rattle.liberty_source.specs.declared.StateGroup.TheVariants.{Stateless, Ff, Latch, Rows}
+use Rattle.liberty_source.specs.declared.StateGroup.TheVariants.{Ff, Latch, Rows}
 use Rattle.liberty_function.specs.declared.program.Source.{Source}
 use Rattle.liberty_function.specs.Function.{Function, SpellsText}
 use Rattle.liberty_function.specs.Sources.{Named, value_at}
@@ -19,11 +18,10 @@ use Rattle.liberty_meaning.specs.declared.pairs.Kind.{Kind}
 use Rattle.liberty_meaning.specs.declared.pairs.Kind.TheVariants.{Clocked, Latched}
 use Rattle.liberty_meaning.specs.declared.table.Row.{Row}
 use Rattle.liberty_meaning.specs.Names.{names_of, nodes_of, output_pins}
-use Rattle.liberty_meaning.specs.Meaning.{Valuation, values_of, IsFunctionOf, IsOutput, IsOutputBy, output_text}
-use Rattle.liberty_meaning.specs.PairMeaning.{Functions, AreFunctions, NextPair, IsPair, pair_after, IsFf, IsFfBy, IsLatch, IsLatchBy}
+use Rattle.liberty_meaning.specs.Meaning.{Valuation, values_of, IsFunctionOf, IsOutputBy, output_text}
+use Rattle.liberty_meaning.specs.PairMeaning.{Functions, AreFunctions, NextPair, IsPair, pair_after, IsFfBy, IsLatchBy}
 use Rattle.liberty_meaning.specs.Table.{first_matching}
-use Rattle.liberty_meaning.specs.TableMeaning.{AreColumns, AreRows}
-use Rattle.liberty_meaning.specs.Next.{NextValue, IsNext, pair_value, row_value}
+use Rattle.liberty_meaning.specs.Next.{IsNext, pair_value, row_value}
 use Rattle.liberty_meaning.specs.Behaviour.{output_value, next_value_of}
 use Rattle.liberty_meaning.specs.Cell.{Means}
 use Rattle.liberty_meaning.specs.Groups.{IsStateless, IsFlipFlop, IsLatched, IsTable}
@@ -56,12 +54,12 @@ pub output_answers : (cell : LibertyCell) (b : Behaviour) → Means cell b → (
 output_answers cell b m k p text f at used spelled pins state =
     output_by (names_of cell) (nodes_of cell.state) (output_text p) p.internal_node (output_value b k) text f (m.output k p at) used spelled pins state
 
-ff_pair : (a b : Option (List ℕ)) (names : List Named) (ff : FfText) (next : NextPair) → IsFfBy a b names ff next → IsPair Clocked names ff.clocked_on ff.next_state ff.clear ff.preset ff.both next
+pub ff_pair : (a b : Option (List ℕ)) (names : List Named) (ff : FfText) (next : NextPair) → IsFfBy a b names ff next → IsPair Clocked names ff.clocked_on ff.next_state ff.clear ff.preset ff.both next
 ff_pair (Some a) (Some b) names ff next h = h
 ff_pair (Some a) None names ff next h = absurd h
 ff_pair None b names ff next h = absurd h
 
-latch_pair : (a b : Option (List ℕ)) (names : List Named) (latch : LatchText) (next : NextPair) → IsLatchBy a b names latch next → IsPair Latched names latch.enable latch.data_in latch.clear latch.preset latch.both next
+pub latch_pair : (a b : Option (List ℕ)) (names : List Named) (latch : LatchText) (next : NextPair) → IsLatchBy a b names latch next → IsPair Latched names latch.enable latch.data_in latch.clear latch.preset latch.both next
 latch_pair (Some a) (Some b) names latch next h = h
 latch_pair (Some a) None names latch next h = absurd h
 latch_pair None (Some b) names latch next h = absurd h
@@ -90,7 +88,7 @@ latch_answers cell latch fs b m old new state k =
     let p = latch_pair latch.enable latch.data_in (names_of cell) latch n.0 n.1 in
     n.2 old new state k ∙ ap (λ q. pair_value q k (value_at state k)) (pair_by Latched (names_of cell) latch.enable latch.data_in latch.clear latch.preset latch.both n.0 fs p m.are old new state)
 
-some_same : {X : Type 0} (o : Option X) (a b : X) → o ≡ Some a → o ≡ Some b → a ≡ b
+pub some_same : {X : Type 0} (o : Option X) (a b : X) → o ≡ Some a → o ≡ Some b → a ≡ b
 some_same None a b e f = absurd (cc)
 some_same (Some x) a b e f = let s : Some a ≡ Some b = sym e ∙ f in cc
 

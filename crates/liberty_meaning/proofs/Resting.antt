@@ -1,27 +1,24 @@
 -- States that stay where the pins stay.
-use Rattle.std.proofs.Common.{◌≡◌, ℕ, zero, suc, ◌+◌, ◌<◌, refl, sym, ◌∙◌, ap, subst, ◌↔◌, List, [], ◌∷◌, length, arith}
+use Rattle.std.proofs.Common.{◌≡◌, ℕ, zero, suc, ◌+◌, ◌<◌, refl, sym, ◌∙◌, ap, subst, ◌↔◌, List, length, arith}
 use Rattle.tern_core.specs.declared.tern.Tern.{Tern}
 use Rattle.tern_core.specs.declared.tern.Tern.TheVariants.{Zero, One, Unknown}
-use Rattle.tern_core.specs.Values.{not_of, common_of}
+use Rattle.tern_core.specs.Values.{common_of}
 use Rattle.tern_core.specs.Order.{IsAtMost}
-use Rattle.liberty_source.specs.declared.Both.{Both}
 use Rattle.liberty_source.specs.declared.FfText.{FfText}
 use Rattle.liberty_source.specs.declared.LatchText.{LatchText}
 use Rattle.liberty_source.specs.declared.RowsText.{RowsText}
 use Rattle.liberty_source.specs.declared.LibertyCell.{LibertyCell}
 use Rattle.liberty_function.specs.declared.program.Source.{Source}
-use Rattle.liberty_function.specs.Sources.{Named, value_at}
+use Rattle.liberty_function.specs.Sources.{value_at}
 use Rattle.liberty_meaning.specs.declared.pair.Pair.{Pair}
-use Rattle.liberty_meaning.specs.declared.pairs.Kind.TheVariants.{Clocked, Latched}
-use Rattle.liberty_meaning.specs.declared.symbols.Symbol.TheVariants as symbol
+use Rattle.liberty_meaning.specs.declared.pairs.Kind.TheVariants.{Clocked}
 use Rattle.liberty_meaning.specs.declared.table.Row.{Row}
 use Rattle.liberty_meaning.specs.declared.behaviour.Behaviour.{Behaviour}
 use Rattle.liberty_meaning.specs.Names.{names_of}
 use Rattle.liberty_meaning.specs.Meaning.{values_of}
 use Rattle.liberty_meaning.specs.Pairs.{pair, taken_in, common_pair, clocked_pair, latched_pair, controlled_pair, both_at}
 use Rattle.liberty_meaning.specs.PairMeaning.{Functions, pair_of, pair_after}
-use Rattle.liberty_meaning.specs.Table.{first_matching}
-use Rattle.liberty_meaning.specs.Next.{pair_value, row_value}
+use Rattle.liberty_meaning.specs.Next.{pair_value}
 use Rattle.liberty_meaning.specs.Behaviour.{next_value_of, next_state, values_from, IsAtRest, after_times}
 use Rattle.liberty_meaning.specs.Groups.{IsStateless, IsFlipFlop, IsLatched, IsTable}
 use Rattle.liberty_meaning.specs.Known.{IsPairAtMost}

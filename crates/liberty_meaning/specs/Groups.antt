@@ -12,7 +12,16 @@ use Rattle.liberty_meaning.specs.declared.behaviour.Behaviour.{Behaviour}
 use Rattle.liberty_meaning.specs.Names.{names_of}
 use Rattle.liberty_meaning.specs.PairMeaning.{Functions, AreFunctions}
 use Rattle.liberty_meaning.specs.TableMeaning.{AreColumns, AreRows}
+use Rattle.liberty_meaning.specs.Behaviour.{inputs_of, states_of, outputs_of, output_value, next_state}
 use Rattle.liberty_meaning.specs.Cell.{Means}
+
+-- two behaviours whose calls answer the same
+pub record SameMeaning (b c : Behaviour) : Type 0 where
+  pub inputs : inputs_of b ≡ inputs_of c
+  pub states : states_of b ≡ states_of c
+  pub outputs : outputs_of b ≡ outputs_of c
+  pub output : (k : ℕ) (pins state : List Tern) → output_value b k pins state ≡ output_value c k pins state
+  pub next : (old new state : List Tern) → next_state b old new state ≡ next_state c old new state
 
 -- a cell without a state group, and what it does
 pub record IsStateless (cell : LibertyCell) (b : Behaviour) : Type 0 where

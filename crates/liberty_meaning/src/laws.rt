@@ -11,6 +11,7 @@ ghost use Rattle.liberty_function.specs.Function.{Function, SpellsText};
 ghost use Rattle.liberty_function.specs.Sources.{value_at};
 ghost use Rattle.liberty_meaning.specs.declared.behaviour.Behaviour.{Behaviour};
 ghost use Rattle.liberty_meaning.specs.declared.pairs.Kind.TheVariants.{Clocked, Latched};
+ghost use Rattle.liberty_meaning.specs.declared.refusal.MeaningRefusal.{MeaningRefusal};
 ghost use Rattle.liberty_meaning.specs.declared.table.Row.{Row};
 ghost use Rattle.liberty_meaning.specs.Names.{names_of, output_pins};
 ghost use Rattle.liberty_meaning.specs.Meaning.{values_of, output_text};
@@ -19,9 +20,15 @@ ghost use Rattle.liberty_meaning.specs.Table.{first_matching};
 ghost use Rattle.liberty_meaning.specs.Next.{pair_value, row_value};
 ghost use Rattle.liberty_meaning.specs.Behaviour.{output_value, next_value_of, IsAtRest, after_times};
 ghost use Rattle.liberty_meaning.specs.Rest.{FlipFlopRests, LatchRests, TableRests};
-ghost use Rattle.liberty_meaning.specs.Cell.{Means};
+ghost use Rattle.liberty_meaning.specs.Cell.{Means, Refuses};
 ghost use Rattle.liberty_meaning.specs.Known.{OutputKeeps, NextKeeps, may_rise, ClockedKeeps, TableKeeps, LosesAtRise, LosesAtKnown};
-ghost use Rattle.liberty_meaning.specs.Groups.{IsStateless, IsFlipFlop, IsLatched, IsTable};
+ghost use Rattle.liberty_meaning.specs.Groups.{SameMeaning, IsStateless, IsFlipFlop, IsLatched, IsTable};
+
+/// A cell has one meaning at most, and none where there is a reason to refuse it.
+pub fn exactly_one()
+    ensures same { (cell : LibertyCell) (b c : Behaviour) → Means cell b → Means cell c → SameMeaning b c }
+    ensures refused { (cell : LibertyCell) (b : Behaviour) (e : MeaningRefusal) → Means cell b → Refuses cell e → ⊥ }
+{}
 
 /// What the calls of a compiled cell answer: an output has the value of each function that its text spells, and the next
 /// values are those of the functions, or of the rows, that the texts of the state group say.
