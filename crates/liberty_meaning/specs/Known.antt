@@ -46,7 +46,7 @@ abbrev pub ClockedKeeps : Valuation → Behaviour → Type 0
 ClockedKeeps clock b = (p q old new s t : List Tern) → AreAtMost p old → AreAtMost q new → AreAtMost s t
     → StaysFlat (clock p s) (clock q s) (clock old t) (clock new t) → AreAtMost (next_state b p q s) (next_state b old new t)
 
--- a next value and an old pair at which an unknown clock that has stayed keeps what a clock that may rise doesn't
+-- a next value and an old pair, of which an unknown clock that has stayed knows what this clock contradicts
 pub record LosesAtRise (before after : Tern) : Type 0 where
   pub next : Tern
   pub old : Pair
@@ -60,7 +60,7 @@ IsDecidedOnce columns rows p q s old new t = (first_matching columns p q s rows 
 abbrev pub TableKeeps : List Source → List Row → Behaviour → Type 0
 TableKeeps columns rows b = (p q old new s t : List Tern) → AreAtMost s t → IsDecidedOnce columns rows p q s old new t → AreAtMost (next_state b p q s) (next_state b old new t)
 
--- a table whose node knows less where its column is known
+-- a table whose node becomes 0 at an unknown column, and 1 where the column is known to be 1
 pub record LosesAtKnown : Type 0 where
   pub columns : List Source
   pub rows : List Row

@@ -95,7 +95,8 @@ impl Behaviour {
         self.outputs.len()
     }
 
-    /// The value of the output pin `k`, counted from 0, at these input pins and this state.
+    /// The value of the output pin `k`, counted from 0, at these input pins and this state, in the cell's order. Unknown past
+    /// the last output; a pin or a state past a list's end is unknown.
     #[tactic(auto, unfolding(crate::specs::Behaviour::output_value))]
     pub fn output(&self, pins: &[Tern], state: &[Tern], k: usize) -> Tern
         ensures { result ≡ spec.output_value self.now k pins.now state.now }
@@ -106,7 +107,7 @@ impl Behaviour {
         }
     }
 
-    /// Brings the state from the input pins `old` to the input pins `new`.
+    /// Brings the state from the input pins `old` to the input pins `new`. A pin or a state past a list's end is unknown.
     pub fn next(&self, old: &[Tern], new: &[Tern], state: &mut [Tern])
         ensures { state.new ≡ spec.next_state self.now old.now new.now state.old }
     {
