@@ -46,7 +46,7 @@ abbrev pub ClockedKeeps : Valuation → Behaviour → Type 0
 ClockedKeeps clock b = (p q old new s t : List Tern) → AreAtMost p old → AreAtMost q new → AreAtMost s t
     → StaysFlat (clock p s) (clock q s) (clock old t) (clock new t) → AreAtMost (next_state b p q s) (next_state b old new t)
 
--- a next value and an old pair, of which an unknown clock that has stayed knows what this clock contradicts
+-- a next value and an old pair that an unknown clock which has stayed keeps and this clock doesn't
 pub record LosesAtRise (before after : Tern) : Type 0 where
   pub next : Tern
   pub old : Pair
