@@ -6,10 +6,13 @@ ROUNDS, VECTORS = 200, 4096
 program, room = sys.argv[1:]
 
 
+def run(tokens, rounds):
+    return fastest([program, f"{room}/{tokens}.lib", "FUNCTION", str(rounds)], 3)
+
+
 def vectors(tokens):
     """Seconds for the 4,096 vectors, without what the program does once."""
-    run = lambda rounds: fastest([program, f"{room}/{tokens}.lib", "FUNCTION", str(rounds)], 3)
-    return (run(ROUNDS) - run(0)) / ROUNDS
+    return (run(tokens, ROUNDS) - run(tokens, 0)) / ROUNDS
 
 
 with open(f"{room}/bytes", "wb") as file:

@@ -142,8 +142,7 @@ class Cell:
         for walk in self.walks:
             new = [{"0": ZERO, "1": ONE}.get(c, X) for c in walk]
             if self.state:
-                at = lambda p, s: self.named(p, s)
-                state = self.state.next(at, pins, new, state)
+                state = self.state.next(self.named, pins, new, state)
             pins = new
             shows = []
             for _, attribute, text in self.outputs:
