@@ -1,11 +1,3 @@
-pub mod Cutting
-pub mod Running
-pub mod Machine
-pub mod Compiles
-pub mod Spelling
-pub mod Completes
-pub mod Accepts
-pub mod TextLemmas
 pub mod Controls
 pub mod Naming
 pub mod OutputLemmas
@@ -14,4 +6,8 @@ pub mod TableLemmas
 pub mod RowLemmas
 pub mod Writing
 pub mod CellLemmas
-pub mod OneValue
+pub mod Meanings
+pub mod Keeping
+pub mod Losing
+pub mod Resting
+pub mod Exactly

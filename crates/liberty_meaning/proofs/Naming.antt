@@ -1,10 +1,10 @@
 -- The loops that list the names of a cell.
-use Rattle.std.proofs.Common.{◌≡◌, ℕ, suc, ◌+◌, ◌<◌, ◌≤◌, refl, sym, ◌∙◌, ap, true, false, List, [], ◌∷◌, ◌++◌, length, drop, drop-cons, add-one, get_or, Some, None, bytes_eq, append_assoc}
+use Rattle.std.proofs.Common.{◌≡◌, ℕ, suc, ◌+◌, ◌<◌, ◌≤◌, refl, sym, ◌∙◌, ap, true, false, List, [], ◌∷◌, ◌++◌, length, drop, drop-cons, add-one, get_or, append_assoc}
 use Rattle.std.proofs.lemmas.List.{drop_all}
 use Rattle.liberty_source.specs.declared.LibertyPin.{LibertyPin}
-use Rattle.liberty_meaning.specs.declared.program.Source.TheVariants as source
-use Rattle.liberty_meaning.specs.declared.scope.Named.{Named}
-use Rattle.liberty_meaning.specs.Names.{inputs_from, internals_of, states_from, place_from, internal_source, is_direction_input, is_direction_internal}
+use Rattle.liberty_function.specs.declared.program.Source.TheVariants as source
+use Rattle.liberty_function.specs.Sources.{Named}
+use Rattle.liberty_meaning.specs.Names.{inputs_from, internals_of, states_from, internal_source, is_direction_input, is_direction_internal}
 
 pub next_item : {X : Type 0} (xs : List X) (i : ℕ) (x : X) → i < length xs → x ≡ get_or xs i x → drop i xs ≡ x ∷ drop (i + 1) xs
 next_item xs i x h is = rw add-one (drop-cons xs i x h ∙ ap (λ k. k ∷ drop (suc i) xs) (sym is))
@@ -43,15 +43,3 @@ state_here k names i n h is = rw (next_item names i n h is) refl
 pub states_end : (k : ℕ) (names : List (List ℕ)) (i : ℕ) → length names ≤ i → states_from k (drop i names) ≡ []
 unfolding states_from
 states_end k names i h = let d : drop i names ≡ [] = drop_all i names h in rw d refl
-
-pub place_here : (k : ℕ) (names : List (List ℕ)) (i : ℕ) (n name : List ℕ) → i < length names → n ≡ get_or names i n → bytes_eq n name ≡ true → place_from k (drop i names) name ≡ Some k
-unfolding place_from
-place_here k names i n name h is t = rw (next_item names i n h is, t) refl
-
-pub no_place_here : (k : ℕ) (names : List (List ℕ)) (i : ℕ) (n name : List ℕ) → i < length names → n ≡ get_or names i n → bytes_eq n name ≡ false → place_from k (drop i names) name ≡ place_from (k + 1) (drop (i + 1) names) name
-unfolding place_from
-no_place_here k names i n name h is t = rw (next_item names i n h is, t) refl
-
-pub places_end : (k : ℕ) (names : List (List ℕ)) (i : ℕ) (name : List ℕ) → length names ≤ i → place_from k (drop i names) name ≡ None
-unfolding place_from
-places_end k names i name h = let d : drop i names ≡ [] = drop_all i names h in rw d refl

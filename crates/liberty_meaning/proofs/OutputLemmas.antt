@@ -1,88 +1,109 @@
 -- The programs of outputs.
-use Rattle.std.proofs.Common.{◌≡◌, ℕ, suc, ◌+◌, ◌<◌, ◌≤◌, refl, sym, ◌∙◌, ap, subst, Bool, true, false, List, [], ◌∷◌, ◌++◌, length, take, drop, drop-cons, get_or, Some, Ok}
-use Rattle.std.proofs.lemmas.List.{take_more, take-append-drop, take_all}
-use Rattle.tern_core.specs.declared.tern.Tern.{Tern}
-use Rattle.tern_core.specs.declared.tern.Tern.TheVariants as tern
+use Rattle.std.proofs.Common.{◌≡◌, ℕ, zero, suc, ◌+◌, ◌<◌, ◌≤◌, refl, sym, ◌∙◌, ap, subst, true, false, List, [], ◌∷◌, ◌++◌, length, take, drop, drop-cons, get_or, All, Option, Some, None, is_some, slice_get}
+use Rattle.std.proofs.lemmas.List.{take_more, take-append-drop, take_all, append-nil}
+use Rattle.std.proofs.lemmas.List.Elements.{filter-append, All-nil, All-cons}
 use Rattle.liberty_source.specs.declared.LibertyPin.{LibertyPin}
-use Rattle.liberty_meaning.specs.declared.program.Source.TheVariants as source
-use Rattle.liberty_meaning.specs.declared.program.Step.TheVariants.{Push}
-use Rattle.liberty_meaning.specs.declared.function.Program.{Program}
-use Rattle.liberty_meaning.specs.declared.scope.Named.{Named}
+use Rattle.liberty_function.specs.declared.function.Program.{Program}
+use Rattle.liberty_function.specs.Sources.{Named}
+use Rattle.liberty_function.specs.Texts.{program_value}
 use Rattle.liberty_meaning.specs.declared.refusal.MeaningRefusal.{MeaningRefusal}
 use Rattle.liberty_meaning.specs.declared.refusal.MeaningRefusal.TheVariants as refusal
-use Rattle.liberty_meaning.specs.Function.{constant}
-use Rattle.liberty_meaning.specs.Compiling.{after_steps}
-use Rattle.liberty_meaning.specs.Texts.{steps_value}
-use Rattle.liberty_meaning.specs.Names.{place_from, is_direction_output}
-use Rattle.liberty_meaning.specs.Meaning.{IsNodeAnswer, Computes, OutputsAre, OutputFirst, IsOutput, RefusesOutput, RefusesOutputs, UnlessMemory}
+use Rattle.liberty_meaning.specs.Names.{is_direction_output, output_pins}
+use Rattle.name_index.specs.Places.{place_of}
+use Rattle.liberty_meaning.specs.Meaning.{Valuation, IsOutputBy, IsGoodOutputBy, OutputsAre, IsOutput, IsGoodOutput, RefusesOutput, RefusesOutputs, UnlessMemory, output_text}
 
-pub none_value : (p : Program) → p.steps ≡ Push source.Unknown ∷ [] → (pins state : List Tern) → steps_value pins state p.steps ≡ tern.Unknown
-unfolding after_steps
-none_value p e pins state = rw e refl
+-- an output pin more, or another pin more
+last_yes : (p : LibertyPin) → is_direction_output p.direction ≡ true → output_pins (p ∷ []) ≡ p ∷ []
+last_yes p e = rw e refl
 
-pub zero_value : (names : List Named) (p : Program) → p.steps ≡ Push source.Zero ∷ [] → Computes names p.steps (constant tern.Zero)
-unfolding after_steps
-zero_value names p e pins state = rw e refl
+last_no : (p : LibertyPin) → is_direction_output p.direction ≡ false → output_pins (p ∷ []) ≡ []
+last_no p e = rw e refl
 
-pub some_value : (nodes : List (List ℕ)) (n : List ℕ) (k : ℕ) (p : Program) → place_from 0 nodes n ≡ Some k → p.steps ≡ Push (source.State k) ∷ [] → IsNodeAnswer nodes (Some n) (Ok p)
-unfolding after_steps
-some_value nodes n k p e s = (k, e, λ pins state. rw s refl)
+next_pins : (pins : List LibertyPin) (i : ℕ) (p : LibertyPin) → i < length pins → p ≡ get_or pins i p → output_pins (take (i + 1) pins) ≡ output_pins (take i pins) ++ output_pins (p ∷ [])
+next_pins pins i p h is = ap output_pins (take_more pins i p h ∙ ap (λ k. take i pins ++ k ∷ []) (sym is)) ∙ filter-append (λ (q : LibertyPin). is_direction_output q.direction) (take i pins) (p ∷ [])
 
-pub outputs_none : (names : List Named) (nodes : List (List ℕ)) (qs : List Program) → qs ≡ [] → OutputsAre names nodes [] qs
-unfolding OutputsAre
-outputs_none names nodes qs e = e
+module _ (names : List Named) (nodes : List (List ℕ)) where
+  pub outputs_none : (qs : List Program) → qs ≡ [] → OutputsAre names nodes [] qs
+  unfolding OutputsAre
+  outputs_none qs e = rw e tt
 
-first_more : (b : Bool) (names : List Named) (nodes : List (List ℕ)) (p : LibertyPin) (qs ends : List Program) (go went : List Program → Type 0) → ((rest : List Program) → go rest → went (rest ++ ends)) → OutputFirst b names nodes p qs go → OutputFirst b names nodes p (qs ++ ends) went
-first_more false names nodes p qs ends go went more h = more qs h
-first_more true names nodes p qs ends go went more h = (h.0, h.1 ++ ends, ap (λ k. k ++ ends) h.2, h.3, more h.1 h.4)
+  outputs_more : (ps : List LibertyPin) (qs : List Program) (p : LibertyPin) (q : Program) → OutputsAre names nodes ps qs → IsOutput names nodes p (program_value q) → OutputsAre names nodes (ps ++ p ∷ []) (qs ++ q ∷ [])
+  unfolding OutputsAre
+  outputs_more [] [] p q h o = (o, tt)
+  outputs_more [] (r ∷ qs) p q h o = absurd h
+  outputs_more (r ∷ ps) [] p q h o = absurd h
+  outputs_more (r ∷ ps) (s ∷ qs) p q h o = (h.0, outputs_more ps qs p q h.1 o)
 
-last_output : (b : Bool) (names : List Named) (nodes : List (List ℕ)) (p : LibertyPin) (q : Program) → b ≡ true → IsOutput names nodes p q.steps → OutputFirst b names nodes p (q ∷ []) (λ rest. rest ≡ [])
-last_output b names nodes p q e h = rw e (q, [], refl, h, refl)
+  pub outputs_step : (pins : List LibertyPin) (i : ℕ) (p : LibertyPin) (qs new : List Program) (q : Program) → i < length pins → p ≡ get_or pins i p → OutputsAre names nodes (output_pins (take i pins)) qs → is_direction_output p.direction ≡ true → IsOutput names nodes p (program_value q) → new ≡ qs ++ q ∷ [] → OutputsAre names nodes (output_pins (take (i + 1) pins)) new
+  outputs_step pins i p qs new q h is o e s n =
+      let t : output_pins (take i pins) ++ p ∷ [] ≡ output_pins (take (i + 1) pins) = sym (next_pins pins i p h is ∙ ap (λ k. output_pins (take i pins) ++ k) (last_yes p e)) in
+      subst (λ k. OutputsAre names nodes k new) t (rw n (outputs_more (output_pins (take i pins)) qs p q o s))
 
-pub outputs_more : (names : List Named) (nodes : List (List ℕ)) (ps : List LibertyPin) (qs : List Program) (p : LibertyPin) (q : Program) → OutputsAre names nodes ps qs → is_direction_output p.direction ≡ true → IsOutput names nodes p q.steps → OutputsAre names nodes (ps ++ p ∷ []) (qs ++ q ∷ [])
-unfolding OutputsAre
-outputs_more names nodes [] qs p q h e o = rw h (last_output (is_direction_output p.direction) names nodes p q e o)
-outputs_more names nodes (r ∷ ps) qs p q h e o = first_more (is_direction_output r.direction) names nodes r qs (q ∷ []) _ _ (λ rest i. outputs_more names nodes ps rest p q i e o) h
+  pub outputs_pass : (pins : List LibertyPin) (i : ℕ) (p : LibertyPin) (qs : List Program) → i < length pins → p ≡ get_or pins i p → OutputsAre names nodes (output_pins (take i pins)) qs → is_direction_output p.direction ≡ false → OutputsAre names nodes (output_pins (take (i + 1) pins)) qs
+  outputs_pass pins i p qs h is o e =
+      let t : output_pins (take (i + 1) pins) ≡ output_pins (take i pins) = next_pins pins i p h is ∙ ap (λ k. output_pins (take i pins) ++ k) (last_no p e) ∙ append-nil (output_pins (take i pins)) in
+      subst (λ k. OutputsAre names nodes k qs) (sym t) o
 
-first_same : (b : Bool) (names : List Named) (nodes : List (List ℕ)) (p : LibertyPin) (qs : List Program) (go went : List Program → Type 0) → ((rest : List Program) → go rest → went rest) → OutputFirst b names nodes p qs go → OutputFirst b names nodes p qs went
-first_same false names nodes p qs go went more h = more qs h
-first_same true names nodes p qs go went more h = (h.0, h.1, h.2, h.3, more h.1 h.4)
+  pub outputs_whole : (pins : List LibertyPin) (i : ℕ) (qs : List Program) → length pins ≤ i → OutputsAre names nodes (output_pins (take i pins)) qs → OutputsAre names nodes (output_pins pins) qs
+  outputs_whole pins i qs h o = subst (λ k. OutputsAre names nodes (output_pins k) qs) (take_all i pins h) o
 
-pub outputs_same : (names : List Named) (nodes : List (List ℕ)) (ps : List LibertyPin) (qs : List Program) (p : LibertyPin) → OutputsAre names nodes ps qs → is_direction_output p.direction ≡ false → OutputsAre names nodes (ps ++ p ∷ []) qs
-unfolding OutputsAre
-outputs_same names nodes [] qs p h e = rw (h, e) refl
-outputs_same names nodes (r ∷ ps) qs p h e = first_same (is_direction_output r.direction) names nodes r qs _ _ (λ rest i. outputs_same names nodes ps rest p i e) h
+  found : (o : Option ℕ) (k : ℕ) → o ≡ Some k → is_some o ≡ true
+  found None k e = absurd (cc)
+  found (Some j) k e = refl
 
-pub outputs_step : (names : List Named) (nodes : List (List ℕ)) (pins : List LibertyPin) (i : ℕ) (p : LibertyPin) (qs new : List Program) (q : Program) → i < length pins → p ≡ get_or pins i p → OutputsAre names nodes (take i pins) qs → is_direction_output p.direction ≡ true → IsOutput names nodes p q.steps → new ≡ qs ++ q ∷ [] → OutputsAre names nodes (take (i + 1) pins) new
-outputs_step names nodes pins i p qs new q h is o e s n =
-    let t : take i pins ++ p ∷ [] ≡ take (i + 1) pins = sym (take_more pins i p h ∙ ap (λ k. take i pins ++ k ∷ []) (sym is)) in
-    subst (λ k. OutputsAre names nodes k new) t (rw n (outputs_more names nodes (take i pins) qs p q o e s))
+  good_by : (text shown : Option (List ℕ)) (v : Valuation) → IsOutputBy names nodes text shown v → IsGoodOutputBy names nodes text shown
+  good_by (Some t) shown v h = (h.0, h.1)
+  good_by None (Some n) v h = found (place_of nodes n) h.0 h.1
+  good_by None None v h = tt
 
-pub outputs_pass : (names : List Named) (nodes : List (List ℕ)) (pins : List LibertyPin) (i : ℕ) (p : LibertyPin) (qs : List Program) → i < length pins → p ≡ get_or pins i p → OutputsAre names nodes (take i pins) qs → is_direction_output p.direction ≡ false → OutputsAre names nodes (take (i + 1) pins) qs
-outputs_pass names nodes pins i p qs h is o e =
-    let t : take i pins ++ p ∷ [] ≡ take (i + 1) pins = sym (take_more pins i p h ∙ ap (λ k. take i pins ++ k ∷ []) (sym is)) in
-    subst (λ k. OutputsAre names nodes k qs) t (outputs_same names nodes (take i pins) qs p o e)
+  -- outputs that have programs are good
+  good_outputs : (ps : List LibertyPin) (qs : List Program) → OutputsAre names nodes ps qs → All (λ p. IsGoodOutput names nodes p) ps
+  unfolding OutputsAre
+  good_outputs [] qs h = All-nil (λ p. IsGoodOutput names nodes p)
+  good_outputs (p ∷ ps) [] h = absurd h
+  good_outputs (p ∷ ps) (q ∷ qs) h = All-cons (λ p. IsGoodOutput names nodes p) p ps (good_by (output_text p) p.internal_node (program_value q) h.0) (good_outputs ps qs h.1)
 
-pub outputs_whole : (names : List Named) (nodes : List (List ℕ)) (pins : List LibertyPin) (i : ℕ) (qs : List Program) → length pins ≤ i → OutputsAre names nodes (take i pins) qs → OutputsAre names nodes pins qs
-outputs_whole names nodes pins i qs h o = subst (λ k. OutputsAre names nodes k qs) (take_all i pins h) o
+  -- each output pin has the program at its place
+  pub output_at : (ps : List LibertyPin) (qs : List Program) → OutputsAre names nodes ps qs → (k : ℕ) (p : LibertyPin) → slice_get ps k ≡ Some p → (q : Program) × (slice_get qs k ≡ Some q) × IsOutput names nodes p (program_value q)
+  unfolding OutputsAre
+  output_at [] qs h k p e = absurd (cc)
+  output_at (r ∷ ps) [] h k p e = absurd h
+  output_at (r ∷ ps) (q ∷ qs) h zero p e = let s : r ≡ p = cc in (q, refl, subst (λ k. IsOutput names nodes k (program_value q)) s h.0)
+  output_at (r ∷ ps) (q ∷ qs) h (suc k) p e = output_at ps qs h.1 k p e
 
-unless : (e : MeaningRefusal) (P Q : Type 0) → (P → Q) → UnlessMemory e P → UnlessMemory e Q
+  pub outputs_length : (ps : List LibertyPin) (qs : List Program) → OutputsAre names nodes ps qs → length qs ≡ length ps
+  unfolding OutputsAre
+  outputs_length [] [] h = refl
+  outputs_length [] (q ∷ qs) h = absurd h
+  outputs_length (p ∷ ps) [] h = absurd h
+  outputs_length (p ∷ ps) (q ∷ qs) h = ap (λ k. suc k) (outputs_length ps qs h.1)
+
+  pub output_past : (ps : List LibertyPin) (qs : List Program) → OutputsAre names nodes ps qs → (k : ℕ) → slice_get ps k ≡ None → slice_get qs k ≡ None
+  unfolding OutputsAre
+  output_past [] [] h k e = refl
+  output_past [] (q ∷ qs) h k e = absurd h
+  output_past (p ∷ ps) [] h k e = absurd h
+  output_past (p ∷ ps) (q ∷ qs) h zero e = absurd (cc)
+  output_past (p ∷ ps) (q ∷ qs) h (suc k) e = output_past ps qs h.1 k e
+
+pub unless : (e : MeaningRefusal) (P Q : Type 0) → (P → Q) → UnlessMemory e P → UnlessMemory e Q
 unless refusal.NoMemory P Q f h = tt
 unless (refusal.BadFunction o k) P Q f h = f h
 unless (refusal.UnknownName n) P Q f h = f h
 unless (refusal.BadStateRow r) P Q f h = f h
 unless (refusal.Construct w l) P Q f h = f h
 
-pub outputs_refused : (names : List Named) (nodes : List (List ℕ)) (pins : List LibertyPin) (i : ℕ) (p : LibertyPin) (qs : List Program) (e : MeaningRefusal) → i < length pins → p ≡ get_or pins i p → OutputsAre names nodes (take i pins) qs → is_direction_output p.direction ≡ true → UnlessMemory e (RefusesOutput names nodes p e) → UnlessMemory e (RefusesOutputs names nodes pins e)
+pub outputs_refused : (names : List Named) (nodes : List (List ℕ)) (pins : List LibertyPin) (i : ℕ) (p : LibertyPin) (qs : List Program) (e : MeaningRefusal) → i < length pins → p ≡ get_or pins i p → OutputsAre names nodes (output_pins (take i pins)) qs → is_direction_output p.direction ≡ true → UnlessMemory e (RefusesOutput names nodes p e) → UnlessMemory e (RefusesOutputs names nodes pins e)
 outputs_refused names nodes pins i p qs e h is o t r =
-    let d : drop i pins ≡ p ∷ drop (suc i) pins = drop-cons pins i p h ∙ ap (λ k. k ∷ drop (suc i) pins) (sym is) in
+    let d : drop i pins ≡ (p ∷ []) ++ drop (suc i) pins = drop-cons pins i p h ∙ ap (λ k. k ∷ drop (suc i) pins) (sym is) in
+    let w : output_pins pins ≡ output_pins (take i pins) ++ (p ∷ output_pins (drop (suc i) pins)) =
+    ap output_pins (sym (take-append-drop i pins)) ∙ filter-append (λ (q : LibertyPin). is_direction_output q.direction) (take i pins) (drop i pins)
+    ∙ ap (λ k. output_pins (take i pins) ++ k) (ap output_pins d ∙ (rw t refl)) in
     unless e (RefusesOutput names nodes p e) (RefusesOutputs names nodes pins e) (λ x. record {
-      before = take i pins;
+      before = output_pins (take i pins);
       pin = p;
-      after = drop (suc i) pins;
-      whole = sym (rw (← d) (take-append-drop i pins));
-      programs = qs;
-      good = o;
-      output = t;
+      after = output_pins (drop (suc i) pins);
+      whole = w;
+      good = good_outputs names nodes (output_pins (take i pins)) qs o;
       refused = x;
     }) r

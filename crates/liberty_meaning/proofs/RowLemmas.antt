@@ -1,12 +1,11 @@
 -- The loops over the rows and the columns of a table.
 use Rattle.std.proofs.Common.{◌≡◌, ℕ, suc, ◌+◌, ◌<◌, ◌≤◌, refl, sym, ◌∙◌, ap, arith, Bool, true, false, List, [], ◌∷◌, ◌++◌, length, take, drop, drop-cons, get_or, Option, Some, None, append_assoc, length-take}
 use Rattle.std.proofs.lemmas.List.{take_more, take-append-drop, take_all, append-nil}
-use Rattle.liberty_meaning.specs.declared.program.Source.{Source}
-use Rattle.liberty_meaning.specs.declared.scope.Named.{Named}
+use Rattle.liberty_function.specs.declared.program.Source.{Source}
+use Rattle.liberty_function.specs.Sources.{Named, source_among}
 use Rattle.liberty_meaning.specs.declared.table.Row.{Row}
 use Rattle.liberty_meaning.specs.declared.table_text.RowWords.{RowWords}
 use Rattle.liberty_meaning.specs.declared.refusal.MeaningRefusal.TheVariants as refusal
-use Rattle.liberty_meaning.specs.Compiling.{source_among}
 use Rattle.liberty_meaning.specs.Table.{made, PushesRows}
 use Rattle.liberty_meaning.specs.Meaning.{told}
 use Rattle.liberty_meaning.specs.TableMeaning.{appended, all_made, RefusesRows, with_column, columns_in, RefusesColumns}

@@ -8,11 +8,11 @@ use Rattle.liberty_meaning.specs.declared.symbols.Role.{Role}
 use Rattle.liberty_meaning.specs.Symbols.{symbol_of, is_slash}
 use Rattle.std.specs.List.{list_any}
 use Rattle.tern_core.specs.declared.tern.Tern.{Tern}
-use Rattle.liberty_meaning.specs.declared.program.Source.{Source}
+use Rattle.liberty_function.specs.declared.program.Source.{Source}
 use Rattle.liberty_meaning.specs.declared.table.Row.{Row}
 use Rattle.liberty_meaning.specs.Table.{with_symbol, symbols_of, matches_row, first_matching, row_of, made, PushesRows}
 use Rattle.liberty_meaning.proofs.Naming.{next_item}
-use Rattle.liberty_meaning.specs.Words.{is_blank}
+use Rattle.liberty_function.specs.Words.{is_blank}
 use Rattle.liberty_meaning.specs.TableText.{row_words, ended, last_row, rows_from, rows_of}
 
 pub comma_cut : (row : List (List ℕ)) (word : List ℕ) (b : ℕ) (bs : List ℕ) → (b == 44) ≡ true → rows_from row word (b ∷ bs) ≡ row_words (row ++ ended word) ∷ rows_from [] [] bs

@@ -1,52 +1,59 @@
 -- What the calls of a compiled cell answer.
-use Rattle.std.specs.Prelude.{ℕ, ◌==◌, if◌then◌else◌, List, length, slice_get, Option, Some, None}
+use Rattle.std.specs.Prelude.{◌≡◌, ℕ, zero, suc, ◌+◌, List, [], ◌∷◌, length, slice_get, Option, Some, None}
 use Rattle.tern_core.specs.declared.tern.Tern.{Tern}
 use Rattle.tern_core.specs.declared.tern.Tern.TheVariants as tern
-use Rattle.liberty_meaning.specs.declared.function.Program.{Program}
-use Rattle.liberty_meaning.specs.declared.pair.Pair.{Pair}
-use Rattle.liberty_meaning.specs.declared.symbols.Symbol.{Symbol}
-use Rattle.liberty_meaning.specs.declared.table.Row.{Row}
+use Rattle.liberty_function.specs.declared.function.Program.{Program}
+use Rattle.liberty_function.specs.Sources.{value_at}
+use Rattle.liberty_function.specs.Texts.{program_value}
 use Rattle.liberty_meaning.specs.declared.behaviour.Behaviour.{Behaviour}
 use Rattle.liberty_meaning.specs.declared.behaviour.StateProgram.{StateProgram}
 use Rattle.liberty_meaning.specs.declared.behaviour.StateProgram.TheVariants as program
-use Rattle.liberty_meaning.specs.Compiling.{value_at}
-use Rattle.liberty_meaning.specs.Texts.{steps_value}
-use Rattle.liberty_meaning.specs.Symbols.{next_value}
+use Rattle.liberty_meaning.specs.Meaning.{Valuation}
+use Rattle.liberty_meaning.specs.Next.{NextValue, pair_value, row_value}
 use Rattle.liberty_meaning.specs.Table.{first_matching_row}
 use Rattle.liberty_meaning.specs.PairMeaning.{next_pair}
 
-abbrev pub inputs_of : Behaviour → ℕ
+-- the numbers of input pins, of state variables and of output pins
+unfoldable pub inputs_of : Behaviour → ℕ
 inputs_of b = b.inputs
 
-abbrev pub states_of : Behaviour → ℕ
+unfoldable pub states_of : Behaviour → ℕ
 states_of b = b.states
 
-abbrev pub outputs_of : Behaviour → ℕ
+unfoldable pub outputs_of : Behaviour → ℕ
 outputs_of b = length b.outputs
 
-abbrev pub value_by : List Tern → List Tern → Option Program → Tern
-value_by pins state None = tern.Unknown
-value_by pins state (Some p) = steps_value pins state p.steps
+abbrev pub value_by : Option Program → Valuation
+value_by None pins state = tern.Unknown
+value_by (Some p) pins state = program_value p pins state
 
-abbrev pub output_value : Behaviour → List Tern → List Tern → ℕ → Tern
-output_value b pins state k = value_by pins state (slice_get b.outputs k)
+-- the value of an output, counted from 0; unknown past the last
+unfoldable pub output_value : Behaviour → ℕ → Valuation
+output_value b k pins state = value_by (slice_get b.outputs k) pins state
 
-abbrev pub pair_value : Pair → ℕ → Tern → Tern
-pair_value p k old = if k == 0 then p.first else if k == 1 then p.second else old
-
-abbrev pub symbol_value : Option Symbol → Tern → Tern
-symbol_value None old = tern.Unknown
-symbol_value (Some s) old = next_value s old
-
--- a node's value after the row; unknown without one
-abbrev pub row_value : Option Row → ℕ → Tern → Tern
-row_value None k old = tern.Unknown
-row_value (Some r) k old = symbol_value (slice_get r.next k) old
-
-abbrev pub state_after : StateProgram → List Tern → List Tern → List Tern → ℕ → Tern
+abbrev pub state_after : StateProgram → NextValue
 state_after program.Nothing old new state k = value_at state k
 state_after (program.Pair q) old new state k = pair_value (next_pair q old new state) k (value_at state k)
 state_after (program.Rows t) old new state k = row_value (first_matching_row t old new state) k (value_at state k)
 
-abbrev pub next_value_of : Behaviour → List Tern → List Tern → List Tern → ℕ → Tern
+-- the k-th value of the state after the input pins have changed, counted from 0
+unfoldable pub next_value_of : Behaviour → NextValue
 next_value_of b old new state k = state_after b.state old new state k
+
+-- as many values from a place on
+unfoldable pub values_from : (ℕ → Tern) → ℕ → ℕ → List Tern
+values_from f k zero = []
+values_from f k (suc n) = f k ∷ values_from f (k + 1) n
+
+-- the state after the input pins have changed from old to new
+abbrev pub next_state : Behaviour → List Tern → List Tern → List Tern → List Tern
+next_state b old new state = values_from (λ k. next_value_of b old new state k) 0 (length state)
+
+-- a state that stays where the pins don't change
+abbrev pub IsAtRest : Behaviour → List Tern → List Tern → Type 0
+IsAtRest b pins state = next_state b pins pins state ≡ state
+
+-- the state after the pins were said to be as they are so many times
+abbrev pub after_times : Behaviour → List Tern → ℕ → List Tern → List Tern
+after_times b pins zero state = state
+after_times b pins (suc n) state = next_state b pins pins (after_times b pins n state)

@@ -1,14 +1,15 @@
 -- The names of a cell: input pins, internal pins, state variables, in this order.
-use Rattle.std.specs.Prelude.{ℕ, ◌+◌, Bool, true, false, if◌then◌else◌, List, [], ◌∷◌, ◌++◌, Option, Some, None, bytes_eq}
+use Rattle.std.specs.Prelude.{ℕ, ◌+◌, Bool, true, false, if◌then◌else◌, List, [], ◌∷◌, ◌++◌, filter, Option, Some, None}
+use Rattle.name_index.specs.Places.{place_of}
 use Rattle.text_scan.specs.declared.pins.Direction.{Direction}
 use Rattle.text_scan.specs.declared.pins.Direction.TheVariants as direction
 use Rattle.liberty_source.specs.declared.LibertyCell.{LibertyCell}
 use Rattle.liberty_source.specs.declared.LibertyPin.{LibertyPin}
 use Rattle.liberty_source.specs.declared.StateGroup.{StateGroup}
 use Rattle.liberty_source.specs.declared.StateGroup.TheVariants.{Stateless, Ff, Latch, Rows}
-use Rattle.liberty_meaning.specs.declared.program.Source.{Source}
-use Rattle.liberty_meaning.specs.declared.program.Source.TheVariants as source
-use Rattle.liberty_meaning.specs.declared.scope.Named.{Named}
+use Rattle.liberty_function.specs.declared.program.Source.{Source}
+use Rattle.liberty_function.specs.declared.program.Source.TheVariants as source
+use Rattle.liberty_function.specs.Sources.{Named}
 
 abbrev pub is_direction_input : Direction → Bool
 is_direction_input direction.Input = true
@@ -34,15 +35,17 @@ is_direction_internal direction.Feedthru = false
 is_direction_internal direction.Internal = true
 is_direction_internal direction.Absent = false
 
+-- the input pins and the output pins in the order of the file
+abbrev pub input_pins : List LibertyPin → List LibertyPin
+input_pins pins = filter (λ (p : LibertyPin). is_direction_input p.direction) pins
+
+abbrev pub output_pins : List LibertyPin → List LibertyPin
+output_pins pins = filter (λ (p : LibertyPin). is_direction_output p.direction) pins
+
 -- the input pins with their places among the inputs, counted from one on
 unfoldable pub inputs_from : ℕ → List LibertyPin → List Named
 inputs_from k [] = []
 inputs_from k (p ∷ pins) = if is_direction_input p.direction then record { name = p.name; source = source.Input k } ∷ inputs_from (k + 1) pins else inputs_from k pins
-
--- the first place of a name in a list, counted from one on
-unfoldable pub place_from : ℕ → List (List ℕ) → List ℕ → Option ℕ
-place_from k [] name = None
-place_from k (n ∷ names) name = if bytes_eq n name then Some k else place_from (k + 1) names name
 
 abbrev pub node_source : Option ℕ → Source
 node_source None = source.Unknown
@@ -51,7 +54,7 @@ node_source (Some k) = source.State k
 -- an internal pin shows a node of the table, or nothing that is known
 abbrev pub internal_source : List (List ℕ) → Option (List ℕ) → Source
 internal_source nodes None = source.Unknown
-internal_source nodes (Some n) = node_source (place_from 0 nodes n)
+internal_source nodes (Some n) = node_source (place_of nodes n)
 
 unfoldable pub internals_of : List (List ℕ) → List LibertyPin → List Named
 internals_of nodes [] = []

@@ -2,13 +2,13 @@
 use Rattle.std.specs.Prelude.{◌≡◌, ℕ, ◌+◌, Bool, true, false, ◌&&◌, ◌==◌, if◌then◌else◌, List, [], ◌∷◌, ◌++◌, length, take, drop, codes, bytes_eq, slice_get, Option, Some, None}
 use Rattle.std.specs.List.{list_all, list_any, zip}
 use Rattle.tern_core.specs.declared.tern.Tern.{Tern}
-use Rattle.liberty_meaning.specs.declared.program.Source.{Source}
+use Rattle.liberty_function.specs.declared.program.Source.{Source}
 use Rattle.liberty_meaning.specs.declared.symbols.Symbol.{Symbol}
 use Rattle.liberty_meaning.specs.declared.symbols.Role.{Role}
 use Rattle.liberty_meaning.specs.declared.symbols.Role.TheVariants.{Input, Node, Next}
 use Rattle.liberty_meaning.specs.declared.table.Row.{Row}
 use Rattle.liberty_meaning.specs.declared.table.Table.{Table}
-use Rattle.liberty_meaning.specs.Compiling.{source_value}
+use Rattle.liberty_function.specs.Sources.{source_value}
 use Rattle.liberty_meaning.specs.Symbols.{symbol_of, is_slash, matches_symbol}
 
 abbrev pub with_symbol : Option Symbol → Option (List Symbol) → Option (List Symbol)

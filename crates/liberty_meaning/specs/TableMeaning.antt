@@ -1,13 +1,17 @@
 -- The table that a statetable's text gives, and what is refused in it.
-use Rattle.std.specs.Prelude.{◌≡◌, ℕ, ◌+◌, List, [], ◌∷◌, ◌++◌, length, Option, Some, None, Result, Ok, Err}
-use Rattle.liberty_meaning.specs.declared.program.Source.{Source}
-use Rattle.liberty_meaning.specs.declared.scope.Named.{Named}
+use Rattle.std.specs.Prelude.{◌≡◌, ℕ, ◌+◌, List, [], ◌∷◌, ◌++◌, length, Option, Some, None, Result, Ok, Err, ◌⊎◌}
+use Rattle.liberty_function.specs.declared.program.Source.{Source}
+use Rattle.liberty_function.specs.Sources.{Named, source_among}
+use Rattle.liberty_source.specs.declared.LibertyPin.{LibertyPin}
+use Rattle.liberty_source.specs.declared.RowsText.{RowsText}
 use Rattle.liberty_meaning.specs.declared.table.Row.{Row}
+use Rattle.liberty_meaning.specs.declared.table.Table.{Table}
 use Rattle.liberty_meaning.specs.declared.table_text.RowWords.{RowWords}
 use Rattle.liberty_meaning.specs.declared.refusal.MeaningRefusal.{MeaningRefusal}
 use Rattle.liberty_meaning.specs.declared.refusal.MeaningRefusal.TheVariants as refusal
-use Rattle.liberty_meaning.specs.Compiling.{source_among}
+use Rattle.liberty_meaning.specs.Names.{inputs_from}
 use Rattle.liberty_meaning.specs.Table.{made}
+use Rattle.liberty_meaning.specs.TableText.{rows_of}
 use Rattle.liberty_meaning.specs.Meaning.{told, UnlessMemory}
 
 abbrev pub appended : Option (List Row) → Option (List Row) → Option (List Row)
@@ -59,3 +63,21 @@ pub record RefusesColumns (inputs : List Named) (names : List (List ℕ)) (e : M
 abbrev pub IsColumnsAnswer : List Named → List (List ℕ) → Result (List Source) MeaningRefusal → Type 0
 IsColumnsAnswer inputs names (Ok columns) = columns_in inputs names ≡ Some columns
 IsColumnsAnswer inputs names (Err e) = UnlessMemory e (RefusesColumns inputs names e)
+
+-- the columns and the rows of a table's text
+abbrev pub AreColumns : List LibertyPin → RowsText → List Source → Type 0
+AreColumns pins r columns = columns_in (inputs_from 0 pins) r.inputs ≡ Some columns
+
+abbrev pub AreRows : RowsText → List Row → Type 0
+AreRows r rows = all_made (length r.inputs) (length r.nodes) (rows_of r.table) ≡ Some rows
+
+-- first the first column that is no input pin, then the first row that is none
+abbrev pub RefusesTable : List LibertyPin → RowsText → MeaningRefusal → Type 0
+RefusesTable pins r e =
+    RefusesColumns (inputs_from 0 pins) r.inputs e
+    ⊎ ((columns : List Source) × AreColumns pins r columns) × RefusesRows (length r.inputs) (length r.nodes) (rows_of r.table) e
+
+-- the answer on a table
+abbrev pub IsTableAnswer : List LibertyPin → RowsText → Result Table MeaningRefusal → Type 0
+IsTableAnswer pins r (Ok t) = AreColumns pins r t.columns × AreRows r t.rows
+IsTableAnswer pins r (Err e) = UnlessMemory e (RefusesTable pins r e)

@@ -1,7 +1,7 @@
 -- The text of a state table: words between blanks, in rows between commas.
 use Rattle.std.specs.Prelude.{ℕ, ◌==◌, if◌then◌else◌, List, [], ◌∷◌, ◌++◌}
 use Rattle.liberty_meaning.specs.declared.table_text.RowWords.{RowWords}
-use Rattle.liberty_meaning.specs.Words.{is_blank}
+use Rattle.liberty_function.specs.Words.{is_blank}
 
 abbrev pub row_words : List (List ℕ) → RowWords
 row_words words = record { words = words }

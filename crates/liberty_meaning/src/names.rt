@@ -1,12 +1,13 @@
 //! The names of a cell and their places.
-ghost use Rattle.std.specs.Prelude.{◌≡◌, ◌++◌, ◌∷◌, [], IfOk, OnOk};
+ghost use Rattle.std.specs.Prelude.{◌≡◌, ◌++◌, ◌∷◌, [], length, IfOk, OnOk};
 ghost use Rattle.liberty_meaning.specs.Names as spec;
+ghost use Rattle.liberty_meaning.specs.Names.{input_pins};
 
-use crate::program::Source;
-use crate::scope::{Named, Scope};
+use liberty_function::{Scope, Source};
 use liberty_source::{LibertyCell, LibertyPin, StateGroup};
+use name_index::Names;
 use std::alloc::Global;
-use text_scan::{Direction, Items, NoMemory, Text};
+use text_scan::{Direction, NoMemory, Text};
 
 pub(crate) fn is_input(pin: &LibertyPin) -> bool
     ensures { result ≡ spec.is_direction_input pin.now.direction }
@@ -26,20 +27,19 @@ pub(crate) fn is_internal(pin: &LibertyPin) -> bool
     matches!(pin.direction, Direction::Internal)
 }
 
-/// The place of the first text that is the name.
-pub(crate) fn place_of(names: &[Text], name: &[u8]) -> Option<usize>
-    ensures { result ≡ spec.place_from 0 names.now name.now }
+/// The texts as names that can be looked up.
+pub(crate) fn indexed(alloc: Global, texts: &[Text]) -> Result<Names, NoMemory>
+    ensures { IfOk result (λ names. names ≡ texts.now) }
 {
-    for (k, text) in names.iter().enumerate() {
-        if text.as_bytes() == name {
-            return Some(k);
-        }
+    let mut names = Names::new(alloc);
+    for text in texts {
+        names.push(alloc, text.as_bytes())?;
     }
-    None
+    Ok(names)
 }
 
 /// The nodes of a table; none where the cell has no table.
-pub(crate) fn nodes(state: &StateGroup) -> &[Text]
+pub(crate) fn table_nodes(state: &StateGroup) -> &[Text]
     ensures { result.now ≡ spec.nodes_of state.now }
 {
     match state {
@@ -59,11 +59,11 @@ pub(crate) fn variables(state: &StateGroup) -> &[Text]
     }
 }
 
-fn internal_source(nodes: &[Text], node: &Option<Text>) -> Source
+fn internal_source(nodes: &Names, node: &Option<Text>) -> Source
     ensures { result ≡ spec.internal_source nodes.now node.now }
 {
     match node {
-        Some(name) => match place_of(nodes, name.as_bytes()) {
+        Some(name) => match nodes.place_of(name.as_bytes()) {
             Some(k) => Source::State(k),
             None => Source::Unknown,
         },
@@ -71,27 +71,13 @@ fn internal_source(nodes: &[Text], node: &Option<Text>) -> Source
     }
 }
 
-fn push_named(
-    alloc: Global,
-    names: &mut Items<Named>,
-    name: &Text,
-    source: Source,
-) -> Result<(), NoMemory>
-    ensures { OnOk result (names.new ≡ names.old ++ (record { name = name.now; source = source }) ∷ []) }
-{
-    names.push(Named {
-        name: name.copied(alloc)?,
-        source,
-    })
-}
-
-fn push_inputs(alloc: Global, names: &mut Items<Named>, pins: &[LibertyPin]) -> Result<(), NoMemory>
+fn push_inputs(alloc: Global, names: &mut Scope, pins: &[LibertyPin]) -> Result<(), NoMemory>
     ensures { OnOk result (names.new ≡ names.old ++ spec.inputs_from 0 pins.now) }
 {
     let mut k: usize = 0;
     for pin in pins {
         if is_input(pin) {
-            push_named(alloc, names, &pin.name, Source::Input(k))?;
+            names.push(alloc, pin.name.as_bytes(), Source::Input(k))?;
             k += 1;
         }
     }
@@ -100,50 +86,54 @@ fn push_inputs(alloc: Global, names: &mut Items<Named>, pins: &[LibertyPin]) -> 
 
 fn push_internals(
     alloc: Global,
-    names: &mut Items<Named>,
-    nodes: &[Text],
+    names: &mut Scope,
+    nodes: &Names,
     pins: &[LibertyPin],
 ) -> Result<(), NoMemory>
     ensures { OnOk result (names.new ≡ names.old ++ spec.internals_of nodes.now pins.now) }
 {
     for pin in pins {
         if is_internal(pin) {
-            push_named(
-                alloc,
-                names,
-                &pin.name,
-                internal_source(nodes, &pin.internal_node),
-            )?;
+            let source = internal_source(nodes, &pin.internal_node);
+            names.push(alloc, pin.name.as_bytes(), source)?;
         }
     }
     Ok(())
 }
 
-fn push_states(alloc: Global, names: &mut Items<Named>, variables: &[Text]) -> Result<(), NoMemory>
+fn push_states(alloc: Global, names: &mut Scope, variables: &[Text]) -> Result<(), NoMemory>
     ensures { OnOk result (names.new ≡ names.old ++ spec.states_from 0 variables.now) }
 {
     for (k, name) in variables.iter().enumerate() {
-        push_named(alloc, names, name, Source::State(k))?;
+        names.push(alloc, name.as_bytes(), Source::State(k))?;
     }
     Ok(())
 }
 
-pub(crate) fn scope_of(alloc: Global, cell: &LibertyCell) -> Result<Scope, NoMemory>
-    ensures { IfOk result (λ scope. scope.names ≡ spec.names_of cell.now) }
+/// All names of the cell, whose table has these nodes.
+pub(crate) fn scope_of(alloc: Global, nodes: &Names, cell: &LibertyCell) -> Result<Scope, NoMemory>
+    requires { nodes.now ≡ spec.nodes_of cell.now.state }
+    ensures { IfOk result (λ scope. scope ≡ spec.names_of cell.now) }
 {
     let pins = cell.pins.as_slice();
-    let mut names = Items::new(alloc);
+    let mut names = Scope::new(alloc);
     push_inputs(alloc, &mut names, pins)?;
-    push_internals(alloc, &mut names, nodes(&cell.state), pins)?;
+    push_internals(alloc, &mut names, nodes, pins)?;
     push_states(alloc, &mut names, variables(&cell.state))?;
-    Ok(Scope { names })
+    Ok(names)
+}
+
+pub(crate) fn input_count(pins: &[LibertyPin]) -> usize
+    ensures { result ≡ length (input_pins pins.now) }
+{
+    pins.iter().filter(|pin| is_input(pin)).count()
 }
 
 /// The input pins alone.
 pub(crate) fn inputs_scope(alloc: Global, pins: &[LibertyPin]) -> Result<Scope, NoMemory>
-    ensures { IfOk result (λ scope. scope.names ≡ spec.inputs_from 0 pins.now) }
+    ensures { IfOk result (λ scope. scope ≡ spec.inputs_from 0 pins.now) }
 {
-    let mut names = Items::new(alloc);
+    let mut names = Scope::new(alloc);
     push_inputs(alloc, &mut names, pins)?;
-    Ok(Scope { names })
+    Ok(names)
 }

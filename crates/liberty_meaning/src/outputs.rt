@@ -1,17 +1,14 @@
 //! The outputs of a cell.
-ghost use Rattle.std.specs.Prelude.{◌≡◌, IfOk, ◌∷◌, [], Some, MatchOption, option_copied};
+ghost use Rattle.std.specs.Prelude.{◌≡◌, Some};
 ghost use Rattle.liberty_meaning.specs.Meaning as spec;
-ghost use Rattle.liberty_meaning.specs.declared.program.Step.TheVariants as step;
 
-use crate::function::Program;
-use crate::names::{is_output, place_of};
-use crate::program::{Source, Step};
+use crate::names::is_output;
 use crate::refusal::MeaningRefusal;
-use crate::scope::Scope;
-use crate::texts::{TextRefusal, compile_text};
+use liberty_function::{Program, Scope, Source, TextRefusal, compile_text};
 use liberty_source::LibertyPin;
+use name_index::Names;
 use std::alloc::Global;
-use text_scan::{Items, NoMemory, Text};
+use text_scan::{Items, Text};
 
 pub(crate) fn told(place: usize) -> u32
     ensures { result ≡ spec.told place }
@@ -23,16 +20,6 @@ pub(crate) fn told(place: usize) -> u32
     }
 }
 
-/// The program of one source.
-#[tactic(auto, unfolding(crate::specs::Compiling::fits))]
-pub(crate) fn source_program(alloc: Global, source: Source) -> Result<Program, NoMemory>
-    ensures { IfOk result (λ p. p.steps ≡ step.Push source ∷ []) }
-{
-    let mut steps = Items::new(alloc);
-    steps.push(Step::Push(source))?;
-    Ok(Program { steps })
-}
-
 /// The program of a text that belongs to a pin or an attribute.
 pub(crate) fn owned_program(
     alloc: Global,
@@ -40,7 +27,7 @@ pub(crate) fn owned_program(
     owner: &[u8],
     text: &Text,
 ) -> Result<Program, MeaningRefusal>
-    ensures { spec.IsOwnedAnswer scope.now.names owner.now (Some text.now) result }
+    ensures { spec.IsOwnedAnswer scope.now owner.now (Some text.now) result }
 {
     match compile_text(alloc, scope, text.as_bytes()) {
         Ok(program) => Ok(program),
@@ -60,25 +47,25 @@ pub(crate) fn optional_program(
     owner: &[u8],
     text: &Option<Text>,
 ) -> Result<Program, MeaningRefusal>
-    ensures { spec.IsOwnedAnswer scope.now.names owner.now text.now result }
+    ensures { spec.IsOwnedAnswer scope.now owner.now text.now result }
 {
     match text {
         Some(text) => owned_program(alloc, scope, owner, text),
-        None => Ok(source_program(alloc, Source::Zero)?),
+        None => Ok(Program::of_source(alloc, Source::Zero)?),
     }
 }
 
 fn node_program(
     alloc: Global,
-    nodes: &[Text],
+    nodes: &Names,
     node: &Option<Text>,
 ) -> Result<Program, MeaningRefusal>
     ensures { spec.IsNodeAnswer nodes.now node.now result }
 {
     match node {
-        None => Ok(source_program(alloc, Source::Unknown)?),
-        Some(name) => match place_of(nodes, name.as_bytes()) {
-            Some(k) => Ok(source_program(alloc, Source::State(k))?),
+        None => Ok(Program::of_source(alloc, Source::Unknown)?),
+        Some(name) => match nodes.place_of(name.as_bytes()) {
+            Some(k) => Ok(Program::of_source(alloc, Source::State(k))?),
             None => Err(MeaningRefusal::UnknownName(name.copied(alloc)?)),
         },
     }
@@ -87,10 +74,10 @@ fn node_program(
 fn output_program(
     alloc: Global,
     scope: &Scope,
-    nodes: &[Text],
+    nodes: &Names,
     pin: &LibertyPin,
 ) -> Result<Program, MeaningRefusal>
-    ensures { spec.IsOutputAnswer scope.now.names nodes.now pin.now result }
+    ensures { spec.IsOutputAnswer scope.now nodes.now pin.now result }
 {
     match (&pin.function, &pin.state_function) {
         (Some(text), _) | (None, Some(text)) => {
@@ -104,10 +91,10 @@ fn output_program(
 pub(crate) fn output_programs(
     alloc: Global,
     scope: &Scope,
-    nodes: &[Text],
+    nodes: &Names,
     pins: &[LibertyPin],
 ) -> Result<Items<Program>, MeaningRefusal>
-    ensures { spec.IsOutputsAnswer scope.now.names nodes.now pins.now result }
+    ensures { spec.IsOutputsAnswer scope.now nodes.now pins.now result }
 {
     let mut programs = Items::new(alloc);
     for pin in pins {

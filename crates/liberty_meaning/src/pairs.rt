@@ -1,15 +1,11 @@
 //! Flip-flops and latches: four functions and what clear and preset do together.
 ghost use Rattle.std.specs.Prelude.{◌≡◌, codes, Some, None};
 ghost use Rattle.liberty_meaning.specs.PairMeaning as spec;
-ghost use Rattle.liberty_meaning.specs.Texts.{steps_value};
-ghost use Rattle.liberty_meaning.specs.Compiling.{value_at};
 
-use crate::function::Program;
 use crate::outputs::optional_program;
 use crate::pair::{Pair, clocked_pair, controlled_pair, latched_pair};
-use crate::program::{run, value_at};
 use crate::refusal::MeaningRefusal;
-use crate::scope::Scope;
+use liberty_function::{Program, Scope, value_at};
 use liberty_source::{Both, FfText, LatchText};
 use std::alloc::Global;
 use tern_core::Tern;
@@ -34,26 +30,20 @@ pub(crate) struct PairPrograms {
     pub(crate) both: [Both; 2],
 }
 
-pub(crate) fn program_value(program: &Program, pins: &[Tern], state: &[Tern]) -> Tern
-    ensures { result ≡ steps_value pins.now state.now program.now.steps }
-{
-    run(pins, state, program.steps.as_slice())
-}
-
 impl PairPrograms {
     fn uncontrolled(&self, old: &[Tern], new: &[Tern], state: &[Tern], pair: Pair) -> Pair
         ensures { result ≡ spec.uncontrolled_by self.now old.now new.now state.now pair }
     {
         match self.kind {
             Kind::Clocked => clocked_pair(
-                program_value(&self.control, old, state),
-                program_value(&self.control, new, state),
-                program_value(&self.value, old, state),
+                self.control.value(old, state),
+                self.control.value(new, state),
+                self.value.value(old, state),
                 pair,
             ),
             Kind::Latched => latched_pair(
-                program_value(&self.control, new, state),
-                program_value(&self.value, new, state),
+                self.control.value(new, state),
+                self.value.value(new, state),
                 pair,
             ),
         }
@@ -68,8 +58,8 @@ impl PairPrograms {
             second: value_at(state, 1),
         };
         controlled_pair(
-            program_value(&self.clear, new, state),
-            program_value(&self.preset, new, state),
+            self.clear.value(new, state),
+            self.preset.value(new, state),
             self.both,
             pair,
             self.uncontrolled(old, new, state, pair),
@@ -87,7 +77,7 @@ fn construct(alloc: Global, word: &[u8], line: u32) -> Result<PairPrograms, Mean
 }
 
 fn ff_programs_of(alloc: Global, scope: &Scope, ff: &FfText) -> Result<PairPrograms, MeaningRefusal>
-    ensures { spec.IsFfTextsAnswer scope.now.names ff.now result }
+    ensures { spec.IsFfTextsAnswer scope.now ff.now result }
 {
     let value = optional_program(alloc, scope, b"next_state", &ff.next_state)?;
     let control = optional_program(alloc, scope, b"clocked_on", &ff.clocked_on)?;
@@ -108,7 +98,7 @@ pub(crate) fn ff_programs(
     scope: &Scope,
     ff: &FfText,
 ) -> Result<PairPrograms, MeaningRefusal>
-    ensures { spec.IsFfAnswer scope.now.names ff.now result }
+    ensures { spec.IsFfAnswer scope.now ff.now result }
 {
     match (&ff.next_state, &ff.clocked_on) {
         (Some(_), Some(_)) => ff_programs_of(alloc, scope, ff),
@@ -121,7 +111,7 @@ fn latch_programs_of(
     scope: &Scope,
     latch: &LatchText,
 ) -> Result<PairPrograms, MeaningRefusal>
-    ensures { spec.IsLatchTextsAnswer scope.now.names latch.now result }
+    ensures { spec.IsLatchTextsAnswer scope.now latch.now result }
 {
     let control = optional_program(alloc, scope, b"enable", &latch.enable)?;
     let value = optional_program(alloc, scope, b"data_in", &latch.data_in)?;
@@ -142,7 +132,7 @@ pub(crate) fn latch_programs(
     scope: &Scope,
     latch: &LatchText,
 ) -> Result<PairPrograms, MeaningRefusal>
-    ensures { spec.IsLatchAnswer scope.now.names latch.now result }
+    ensures { spec.IsLatchAnswer scope.now latch.now result }
 {
     match (&latch.enable, &latch.data_in) {
         (Some(_), None) | (None, Some(_)) => construct(alloc, b"latch", latch.line),

@@ -5,8 +5,8 @@ ghost use Rattle.std.specs.List.{list_any};
 ghost use Rattle.std.specs.Option.{option_copied};
 ghost use Rattle.liberty_meaning.specs.Symbols.{is_slash};
 
-use crate::program::{Source, source_value};
 use crate::symbols::{Role, Symbol, is_slash as slash_in, matches_symbol, symbol_of};
+use liberty_function::{Source, source_value};
 use std::alloc::Global;
 use tern_core::Tern;
 use text_scan::{Items, NoMemory, Text};

@@ -3,11 +3,10 @@ ghost use Rattle.std.specs.Prelude.{◌≡◌, length};
 ghost use Rattle.liberty_meaning.specs.TableMeaning as spec;
 
 use crate::outputs::told;
-use crate::program::Source;
 use crate::refusal::MeaningRefusal;
-use crate::scope::Scope;
 use crate::table::{Row, push_rows};
 use crate::table_text::RowWords;
+use liberty_function::{Scope, Source};
 use std::alloc::Global;
 use text_scan::{Items, Text};
 
@@ -35,7 +34,7 @@ pub(crate) fn columns_of(
     inputs: &Scope,
     names: &[Text],
 ) -> Result<Items<Source>, MeaningRefusal>
-    ensures { spec.IsColumnsAnswer inputs.now.names names.now result }
+    ensures { spec.IsColumnsAnswer inputs.now names.now result }
 {
     let mut columns = Items::new(alloc);
     for name in names {

@@ -2,7 +2,7 @@
 ghost use Rattle.std.specs.Prelude.{◌≡◌, ℕ, List, ◌++◌, ◌∷◌, [], IfOk, OnOk};
 ghost use Rattle.liberty_meaning.specs.TableText as spec;
 
-use crate::words::is_blank;
+use liberty_function::is_blank;
 use std::alloc::Global;
 use text_scan::{Items, NoMemory, Text};
 

@@ -1,5 +1,5 @@
-use Rattle.liberty_meaning.specs.Behaviour.{pair_value}
-use Rattle.liberty_meaning.specs.Compiling.{value_at}
+use Rattle.liberty_meaning.specs.Next.{pair_value}
+use Rattle.liberty_function.specs.Sources.{value_at}
 use Rattle.liberty_meaning.proofs.Writing.{IsWritten}
 use Rattle.liberty_meaning.proofs.behaviour.write_pair.Given as goal
 

@@ -1,6 +1,6 @@
 use Rattle.std.specs.Option.{option_copied}
-use Rattle.liberty_meaning.specs.Behaviour.{row_value}
-use Rattle.liberty_meaning.specs.Compiling.{value_at}
+use Rattle.liberty_meaning.specs.Next.{row_value}
+use Rattle.liberty_function.specs.Sources.{value_at}
 use Rattle.liberty_meaning.proofs.Writing.{IsWritten}
 use Rattle.liberty_meaning.proofs.behaviour.write_row.Given as goal
 

@@ -1,0 +1,5 @@
+pub mod Sources
+pub mod Words
+pub mod Function
+pub mod Compiling
+pub mod Texts

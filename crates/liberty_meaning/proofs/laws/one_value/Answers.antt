@@ -1,5 +1,0 @@
-use Rattle.liberty_meaning.proofs.OneValue.{one_value}
-use Rattle.liberty_meaning.proofs.laws.one_value.Goals as goal
-
-pub returns : goal.returns
-returns c = one_value

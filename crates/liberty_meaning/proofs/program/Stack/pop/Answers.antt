@@ -1,5 +1,0 @@
-use Rattle.liberty_meaning.proofs.Running.{first_values-pop}
-use Rattle.liberty_meaning.proofs.program.Stack.pop.Goals as goal
-
-pub returns-clause-values : goal.returns-clause-values
-returns-clause-values c = first_values-pop c.args.self.now.values c.args.self.now.held c.requires.some

@@ -1,6 +1,0 @@
-use Rattle.std.proofs.Common.{arith}
-use Rattle.liberty_meaning.proofs.Running.{first_values-push}
-use Rattle.liberty_meaning.proofs.program.Stack.push.Goals as goal
-
-pub returns-clause-values : goal.returns-clause-values
-returns-clause-values c = first_values-push c.args.self.now.values c.args.self.now.held c.args.value (omega arith)

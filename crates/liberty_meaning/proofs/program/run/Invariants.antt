@@ -1,9 +1,0 @@
-use Rattle.std.proofs.Common.{◌≡◌, true, [], drop}
-use Rattle.liberty_meaning.specs.Compiling as spec
-use Rattle.liberty_meaning.proofs.program.run.Given as goal
-
-abbrev pub invariant-loop-step : goal.invariant-loop-step
-invariant-loop-step l = record {
-  fits : spec.fits (drop l.step-index l.steps) l.stack.held ≡ true;
-  leads : spec.after_steps (spec.source_value l.pins l.state) l.steps [] ≡ spec.after_steps (spec.source_value l.pins l.state) (drop l.step-index l.steps) (spec.held_values l.stack);
-}

@@ -1,7 +1,0 @@
-use Rattle.std.proofs.Common.{◌≡◌, drop}
-use Rattle.liberty_meaning.specs.Texts as spec
-use Rattle.liberty_meaning.specs.Words.{bare}
-use Rattle.liberty_meaning.proofs.texts.first_unknown.Given as goal
-
-abbrev pub invariant-loop-placed : goal.invariant-loop-placed
-invariant-loop-placed l = spec.unknown_among l.scope.names (bare l.words) ≡ spec.unknown_among l.scope.names (bare (drop l.placed-index l.words))
