@@ -17,7 +17,8 @@ use Rattle.liberty_reader.specs.declared.statements.Level.TheVariants as levels
 use Rattle.liberty_reader.specs.declared.statements.Statements.{Statements}
 use Rattle.liberty_reader.specs.Looks.{text}
 use Rattle.liberty_reader.specs.Words.{group_kind, attribute_kind, is_cell}
-use Rattle.liberty_reader.specs.Names.{content, is_name, is_known, columns}
+use Rattle.name_index.specs.Places.{is_known}
+use Rattle.liberty_reader.specs.Names.{content, is_name, columns}
 
 abbrev pub Outcome : Type 0
 Outcome = Result Statements Refusal

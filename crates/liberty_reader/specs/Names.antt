@@ -1,7 +1,7 @@
 -- The content of a token, and which contents are names.
 use Rattle.std.specs.Prelude.{ℕ, ◌+◌, ◌-◌, Bool, true, false, ◌==◌, ◌&&◌, ◌||◌, nat_le, nat_lt, if◌then◌else◌, List, [], ◌∷◌, ◌++◌, length, slice_range}
 use Rattle.std.specs.Str.{bytes_eq}
-use Rattle.std.specs.List.{list_any, list_all}
+use Rattle.std.specs.List.{list_all}
 use Rattle.text_scan.specs.declared.token.Kind.{Kind}
 use Rattle.text_scan.specs.declared.token.Kind.TheVariants as kinds
 use Rattle.text_scan.specs.declared.token.Token.{Token}
@@ -55,9 +55,6 @@ has_name_bytes bs = list_all is_name_byte bs
 -- a name, but for its greatest length, which is a limit
 unfoldable pub is_name : List ℕ → Bool
 is_name bs = nat_lt 0 (length bs) && (has_name_bytes bs && (if is_mark bs then false else true))
-
-unfoldable pub is_known : List ℕ → List (List ℕ) → Bool
-is_known name names = list_any (λ n. bytes_eq n name) names
 
 -- the columns of a string of a state table stand between blanks and tabs
 unfoldable pub is_break : ℕ → Bool

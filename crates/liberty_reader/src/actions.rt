@@ -7,6 +7,7 @@ use crate::halt::{Halt, Refusal};
 use crate::kinds::{AttributeKind, GroupKind, attribute_kind};
 use crate::names::{between, content, text};
 use crate::statements::{Attribute, Level, Statements, Value};
+use name_index::Names;
 use std::alloc::Global;
 use text_scan::{Items, Kind, LimitKind, Limits, NoMemory, Span, Text, Token};
 
@@ -93,7 +94,7 @@ impl Statements {
         Statements {
             name: None,
             cells: Items::new(alloc),
-            cell_names: Items::new(alloc),
+            cell_names: Names::new(alloc),
             level: Level::Library,
             passed: 0,
             word: no_token(),
@@ -102,7 +103,7 @@ impl Statements {
             cell_word: no_token(),
             cell_name: no_token(),
             groups: Items::new(alloc),
-            pin_names: Items::new(alloc),
+            pin_names: Names::new(alloc),
             group_kind: GroupKind::Other,
             group_word: no_token(),
             group_args: Items::new(alloc),

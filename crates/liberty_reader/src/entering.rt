@@ -6,8 +6,9 @@ ghost use Rattle.liberty_reader.specs.Does.{Does};
 
 use crate::halt::{Halt, Refusal};
 use crate::kinds::{GroupKind, group_kind, is_cell};
-use crate::names::{columns, content, is_known, is_name, text};
+use crate::names::{columns, content, is_name, text};
 use crate::statements::{CellText, Group, Level, Statements};
+use name_index::Names;
 use std::alloc::Global;
 use std::mem;
 use text_scan::{Items, LimitKind, Limits, NoMemory, Text, Token};
@@ -25,7 +26,7 @@ fn add_pin_name(
     source: &[u8],
     limits: &Limits,
     token: Token,
-    names: &mut Items<Text>,
+    names: &mut Names,
 ) -> Result<(), Halt>
     ensures { Does result names.new (spec.add_pin_name source.now limits.now token names.old) }
 {
@@ -34,10 +35,10 @@ fn add_pin_name(
         return Err(Halt::Refused(Refusal::TooMany(LimitKind::Name)));
     }
     if is_name(name.as_bytes()) {
-        if is_known(name.as_bytes(), names.as_slice()) {
+        if names.contains(name.as_bytes()) {
             return Err(Halt::Refused(Refusal::DoubleName(token)));
         }
-        names.push(name)?;
+        names.push(alloc, name.as_bytes())?;
     }
     Ok(())
 }
@@ -48,7 +49,7 @@ fn add_pin_names(
     source: &[u8],
     limits: &Limits,
     tokens: &[Token],
-    names: &mut Items<Text>,
+    names: &mut Names,
 ) -> Result<(), Halt>
     ensures { Does result names.new (spec.add_pin_names source.now limits.now tokens.now names.old) }
 {
@@ -137,7 +138,7 @@ fn add_names(
     limits: &Limits,
     kind: GroupKind,
     tokens: &[Token],
-    names: &mut Items<Text>,
+    names: &mut Names,
 ) -> Result<(), Halt>
     ensures { Does result names.new (spec.add_names source.now limits.now kind tokens.now names.old) }
 {
@@ -219,11 +220,11 @@ impl Statements {
     }
 
     #[tactic(auto, unfolding(crate::specs::Actions::open_cell))]
-    fn open_cell(&mut self, alloc: Global, token: Token, name: Text) -> Result<(), NoMemory>
-        ensures does { OnOk result (self.new ≡ spec.open_cell self.old token name) }
+    fn open_cell(&mut self, alloc: Global, token: Token, name: &[u8]) -> Result<(), NoMemory>
+        ensures does { OnOk result (self.new ≡ spec.open_cell self.old token name.now) }
         ensures passed { self.new.passed ≡ self.old.passed }
     {
-        self.cell_names.push(name)?;
+        self.cell_names.push(alloc, name)?;
         self.level = Level::Cell;
         self.cell_word = self.word;
         self.cell_name = token;
@@ -237,18 +238,18 @@ impl Statements {
         alloc: Global,
         limits: &Limits,
         token: Token,
-        name: Text,
+        name: &[u8],
     ) -> Result<(), Halt>
-        ensures does { Does result self.new (spec.enter_named_cell limits.now token name self.old) }
+        ensures does { Does result self.new (spec.enter_named_cell limits.now token name.now self.old) }
         ensures passed { self.new.passed ≡ self.old.passed }
     {
-        if is_too_long(limits, name.as_bytes()) {
+        if is_too_long(limits, name) {
             return Err(Halt::Refused(Refusal::TooMany(LimitKind::Name)));
         }
-        if !is_name(name.as_bytes()) {
+        if !is_name(name) {
             return Err(Halt::Refused(Refusal::BadName(token)));
         }
-        if is_known(name.as_bytes(), self.cell_names.as_slice()) {
+        if self.cell_names.contains(name) {
             return Err(Halt::Refused(Refusal::DoubleName(token)));
         }
         self.open_cell(alloc, token, name)?;
@@ -270,7 +271,7 @@ impl Statements {
             return Err(Halt::Refused(Refusal::TooMany(LimitKind::Cells)));
         }
         let name = content(alloc, source, token)?;
-        self.enter_named_cell(alloc, limits, token, name)
+        self.enter_named_cell(alloc, limits, token, name.as_bytes())
     }
 
     #[tactic(auto, unfolding(crate::specs::Actions::enter_in_library))]
@@ -363,7 +364,7 @@ impl Statements {
         ensures passed { self.new.passed ≡ self.old.passed }
     {
         self.level = Level::Library;
-        self.pin_names = Items::new(alloc);
+        self.pin_names = Names::new(alloc);
         let groups = mem::replace(&mut self.groups, Items::new(alloc));
         self.cells.push(CellText {
             word: self.cell_word,

@@ -141,13 +141,6 @@ pub fn is_name(bytes: &[u8]) -> bool
     0 < bytes.len() && has_name_bytes(bytes) && !is_mark(bytes)
 }
 
-#[tactic(auto, unfolding(crate::specs::Names::is_known))]
-pub fn is_known(name: &[u8], names: &[Text]) -> bool
-    ensures { result ≡ spec.is_known name.now names.now }
-{
-    names.iter().any(|known| known.as_bytes() == name)
-}
-
 #[tactic(auto, unfolding(crate::specs::Names::is_break))]
 fn is_break(byte: u8) -> bool
     ensures { result ≡ spec.is_break byte }

@@ -1,6 +1,7 @@
 //! What is kept of a library's statements while it is read.
 use crate::kinds::{AttributeKind, GroupKind};
-use text_scan::{Items, Text, Token};
+use name_index::Names;
+use text_scan::{Items, Token};
 
 /// The value of a simple attribute, which has a token at least.
 #[derive(Clone, Copy, Debug)]
@@ -47,7 +48,7 @@ pub enum Level {
 pub struct Statements {
     pub name: Option<Token>,
     pub cells: Items<CellText>,
-    pub cell_names: Items<Text>,
+    pub cell_names: Names,
     pub level: Level,
     /// How many groups that are passed over are open in it.
     pub passed: u32,
@@ -59,7 +60,7 @@ pub struct Statements {
     pub cell_word: Token,
     pub cell_name: Token,
     pub groups: Items<Group>,
-    pub pin_names: Items<Text>,
+    pub pin_names: Names,
     /// The open group of the cell.
     pub group_kind: GroupKind,
     pub group_word: Token,
