@@ -1,10 +1,3 @@
-pub mod Simple
-pub mod Follows
-pub mod Contents
-pub mod Columns
-pub mod Groups
-pub mod Takes
-pub mod WholeText
 pub mod CellLists
 pub mod Made
 pub mod Public

@@ -6,7 +6,7 @@ use Rattle.std.proofs.Math.ListN.{drop_of_length-le}
 use Rattle.text_scan.specs.declared.token.Token.{Token}
 use Rattle.liberty_source.specs.declared.LibertyPin.{LibertyPin}
 use Rattle.liberty_source.specs.declared.StateGroup.{StateGroup}
-use Rattle.liberty_reader.specs.declared.statements.Group.{Group}
+use Rattle.liberty_statements.specs.declared.statements.Group.{Group}
 use Rattle.liberty_reader.specs.Cells.{pins, pins_of, state, group_state, state_of_two}
 
 pub joined : (xs ys zs : List LibertyPin) → (xs ++ ys) ++ zs ≡ xs ++ (ys ++ zs)

@@ -8,13 +8,13 @@ use Rattle.grammar.specs.Reading.{syntax, refusal, IsSimple}
 use Rattle.grammar.specs.Answers.{read_all, IsAnswer}
 use Rattle.grammar.proofs.Answer.{answers}
 use Rattle.grammar.proofs.Unique.{answer_is_read}
-use Rattle.liberty_reader.specs.declared.statements.Statements.{Statements}
-use Rattle.liberty_reader.specs.Answer.{library_file, file_tokens, told, same, Agrees}
+use Rattle.liberty_statements.specs.declared.statements.Statements.{Statements}
+use Rattle.liberty_statements.specs.Answer.{library_file, file_tokens, told, same, Agrees}
 use Rattle.liberty_reader.specs.Cells.{library}
-use Rattle.liberty_reader.specs.Does.{nothing}
+use Rattle.liberty_statements.specs.Does.{nothing}
 use Rattle.liberty_reader.specs.Promise.{IsAnswered}
-use Rattle.liberty_reader.specs.ToCome.{Answer}
-use Rattle.liberty_reader.proofs.Simple.{file_simple}
+use Rattle.liberty_statements.specs.ToCome.{Answer}
+use Rattle.liberty_statements.proofs.Simple.{file_simple}
 
 module _ (source : List ℕ) (limits : Limits) where
   abbrev pub whole_answer : Answer

@@ -19,19 +19,19 @@ use Rattle.liberty_source.specs.declared.StateGroup.TheVariants as states
 use Rattle.liberty_source.specs.declared.CellPart.{CellPart}
 use Rattle.liberty_source.specs.declared.CellPart.TheVariants as parts
 use Rattle.liberty_source.specs.declared.Library.{Library}
-use Rattle.liberty_reader.specs.declared.kinds.GroupKind.{GroupKind}
-use Rattle.liberty_reader.specs.declared.kinds.GroupKind.TheVariants as groups
-use Rattle.liberty_reader.specs.declared.kinds.AttributeKind.{AttributeKind}
-use Rattle.liberty_reader.specs.declared.kinds.AttributeKind.TheVariants as attributes
-use Rattle.liberty_reader.specs.declared.statements.Attribute.{Attribute}
-use Rattle.liberty_reader.specs.declared.statements.Group.{Group}
-use Rattle.liberty_reader.specs.declared.statements.CellText.{CellText}
-use Rattle.liberty_reader.specs.declared.statements.Statements.{Statements}
+use Rattle.liberty_tokens.specs.declared.kinds.GroupKind.{GroupKind}
+use Rattle.liberty_tokens.specs.declared.kinds.GroupKind.TheVariants as groups
+use Rattle.liberty_tokens.specs.declared.kinds.AttributeKind.{AttributeKind}
+use Rattle.liberty_tokens.specs.declared.kinds.AttributeKind.TheVariants as attributes
+use Rattle.liberty_statements.specs.declared.statements.Attribute.{Attribute}
+use Rattle.liberty_statements.specs.declared.statements.Group.{Group}
+use Rattle.liberty_statements.specs.declared.statements.CellText.{CellText}
+use Rattle.liberty_statements.specs.declared.statements.Statements.{Statements}
 use Rattle.liberty_reader.specs.declared.cell.Slots.{Slots}
 use Rattle.liberty_reader.specs.declared.cell.Construct.{Construct}
-use Rattle.liberty_reader.specs.Looks.{text}
-use Rattle.liberty_reader.specs.Names.{content, is_string, is_name, columns}
-use Rattle.liberty_reader.specs.Actions.{value_text}
+use Rattle.liberty_tokens.specs.Looks.{text}
+use Rattle.liberty_tokens.specs.Names.{content, is_string, is_name, columns}
+use Rattle.liberty_statements.specs.Actions.{value_text}
 
 -- ---- attributes: the last of each kind counts
 

@@ -1,12 +1,2 @@
-pub mod Looks
-pub mod Words
-pub mod Names
-pub mod Actions
-pub mod Grammar
-pub mod Steps
-pub mod ToCome
-pub mod Does
-pub mod Bounds
-pub mod Answer
 pub mod Cells
 pub mod Promise

@@ -1,13 +1,11 @@
 //! What a cell makes of its statements.
 ghost use Rattle.std.specs.Prelude.{◌≡◌, IfOk, false};
 ghost use Rattle.std.specs.List.{list_all};
-ghost use Rattle.liberty_reader.specs.Names as names;
+ghost use Rattle.liberty_tokens.specs.Names as names;
 ghost use Rattle.liberty_reader.specs.Cells as spec;
 
-use crate::actions::value_text;
-use crate::kinds::{AttributeKind, GroupKind};
-use crate::names::{columns, content, is_name};
-use crate::statements::{Attribute, Group};
+use liberty_statements::{Attribute, Group, value_text};
+use liberty_tokens::{AttributeKind, GroupKind, columns, content, is_name};
 use std::alloc::Global;
 use text_scan::{Direction, Kind, NoMemory, Text, Token};
 

@@ -2,16 +2,14 @@
 ghost use Rattle.std.specs.Prelude.{◌≡◌, ◌++◌, map, IfOk, OnOk};
 ghost use Rattle.liberty_source.specs.declared.StateGroup.TheVariants as states;
 ghost use Rattle.liberty_reader.specs.Cells as spec;
-ghost use Rattle.liberty_reader.specs.Names as names;
+ghost use Rattle.liberty_tokens.specs.Names as names;
 
-use crate::actions::value_text;
 use crate::cell::{Construct, Slots, direction_of, first_refused, is_power, is_string, last_of};
-use crate::kinds::GroupKind;
-use crate::names::{columns, content, is_name, text};
-use crate::statements::{Attribute, CellText, Group, Statements};
 use liberty_source::{
     Both, CellPart, FfText, LatchText, LibertyCell, LibertyPin, Library, RowsText, StateGroup,
 };
+use liberty_statements::{Attribute, CellText, Group, Statements, value_text};
+use liberty_tokens::{GroupKind, columns, content, is_name, text};
 use std::alloc::Global;
 use text_scan::{Direction, Items, NoMemory, PinKind, Text, Token};
 

@@ -1,15 +1,15 @@
 //! The public call.
 ghost use Rattle.std.specs.Prelude.{◌≡◌, ◌≤◌};
 ghost use Rattle.grammar.specs.Answers.{IsAnswer};
-ghost use Rattle.liberty_reader.specs.Answer.{library_file, file_tokens, told, Agrees};
+ghost use Rattle.liberty_statements.specs.Answer.{library_file, file_tokens, told, Agrees};
 ghost use Rattle.liberty_reader.specs.Cells.{library as library_of};
-ghost use Rattle.liberty_reader.specs.Does.{nothing};
+ghost use Rattle.liberty_statements.specs.Does.{nothing};
 ghost use Rattle.liberty_reader.specs.Promise.{IsAnswered, IsWithin};
-ghost use Rattle.liberty_reader.specs.ToCome.{Answer};
+ghost use Rattle.liberty_statements.specs.ToCome.{Answer};
 
 use crate::making::library;
-use crate::reader::read_statements;
 use liberty_source::Library;
+use liberty_statements::read_statements;
 use std::alloc::Global;
 use text_scan::{FileRefusal, Limits};
 

@@ -1,9 +1,12 @@
 //! Reads each text of some files as a Liberty library and prints what the reader answers: `library_rows FILE..`. Texts
-//! are parted by `%`. Of the first text of each file all beginnings are read too, and those that are refused counted.
+//! are parted by `%`. Of the first text of each file all beginnings are read too: those that are refused where they end
+//! are counted, and the others shown.
 #![tactic(auto)]
 
 use anyhow::Result;
-use liberty_reader::{CellPart, LibertyCell, LibertyPin, Library, StateGroup, read_library};
+use liberty_reader::{
+    Both, CellPart, LibertyCell, LibertyPin, Library, RowsText, StateGroup, read_library,
+};
 use std::alloc::{Alloc, Global};
 use std::io::Print;
 use std::{env, fs};
@@ -13,41 +16,83 @@ fn shown(alloc: Global, text: &Text) -> Result<String> {
     Ok(String::from_utf8(text.as_bytes().to_vec(alloc)?)?)
 }
 
+fn show_texts<R: Print + Alloc<A = Global>>(rt: &R, texts: &[&Option<Text>]) -> Result<()> {
+    for text in texts {
+        match text {
+            Some(text) => print!(rt; " [{}]", shown(rt.alloc(), text)?)?,
+            None => print!(rt; " -")?,
+        }
+    }
+    Ok(())
+}
+
 fn show_pin<R: Print + Alloc<A = Global>>(rt: &R, pin: &LibertyPin) -> Result<()> {
     let alloc = rt.alloc();
     let name = shown(alloc, &pin.name)?;
     let (direction, kind) = (pin.direction, pin.kind);
     print!(rt; "  {name} {direction:?} {kind:?}")?;
-    for text in [&pin.function, &pin.state_function, &pin.internal_node] {
-        match text {
-            Some(text) => print!(rt; " [{}]", shown(alloc, text)?)?,
-            None => print!(rt; " -")?,
-        }
-    }
+    show_texts(
+        rt,
+        &[&pin.function, &pin.state_function, &pin.internal_node],
+    )?;
     println!(rt; "")?;
     Ok(())
 }
 
-fn group_word(state: &StateGroup) -> &'static str {
+fn show_names<R: Print + Alloc<A = Global>>(rt: &R, names: &[Text]) -> Result<()> {
+    for name in names {
+        print!(rt; " {}", shown(rt.alloc(), name)?)?;
+    }
+    Ok(())
+}
+
+fn show_storage<R: Print + Alloc<A = Global>>(
+    rt: &R,
+    line: u32,
+    variables: &[Text],
+    texts: &[&Option<Text>],
+    both: &[Both],
+) -> Result<()> {
+    print!(rt; " at line {line}:")?;
+    show_names(rt, variables)?;
+    show_texts(rt, texts)?;
+    println!(rt; " {both:?}")?;
+    Ok(())
+}
+
+fn show_rows<R: Print + Alloc<A = Global>>(rt: &R, rows: &RowsText) -> Result<()> {
+    print!(rt; "  statetable at line {}:", rows.line)?;
+    show_names(rt, rows.inputs.as_slice())?;
+    print!(rt; " :")?;
+    show_names(rt, rows.nodes.as_slice())?;
+    println!(rt; " [{}]", shown(rt.alloc(), &rows.table)?)?;
+    Ok(())
+}
+
+fn show_state<R: Print + Alloc<A = Global>>(rt: &R, state: &StateGroup) -> Result<()> {
     match state {
-        StateGroup::Stateless => "no state",
-        StateGroup::Ff(_) => "ff",
-        StateGroup::Latch(_) => "latch",
-        StateGroup::Rows(_) => "statetable",
+        StateGroup::Stateless => Ok(()),
+        StateGroup::Ff(ff) => {
+            print!(rt; "  ff")?;
+            let texts = [&ff.next_state, &ff.clocked_on, &ff.clear, &ff.preset];
+            show_storage(rt, ff.line, &ff.variables, &texts, &ff.both)
+        }
+        StateGroup::Latch(latch) => {
+            print!(rt; "  latch")?;
+            let texts = [&latch.enable, &latch.data_in, &latch.clear, &latch.preset];
+            show_storage(rt, latch.line, &latch.variables, &texts, &latch.both)
+        }
+        StateGroup::Rows(rows) => show_rows(rt, rows),
     }
 }
 
 fn show_cell<R: Print + Alloc<A = Global>>(rt: &R, cell: &LibertyCell) -> Result<()> {
     let name = shown(rt.alloc(), &cell.name)?;
-    println!(rt;
-        " {name} at line {}, {}",
-        cell.line,
-        group_word(&cell.state)
-    )?;
+    println!(rt; " {name} at line {}", cell.line)?;
     for pin in cell.pins.as_slice() {
         show_pin(rt, pin)?;
     }
-    Ok(())
+    show_state(rt, &cell.state)
 }
 
 fn show_part<R: Print + Alloc<A = Global>>(rt: &R, part: &CellPart) -> Result<()> {
@@ -97,24 +142,38 @@ fn show<R: Print + Alloc<A = Global>>(rt: &R, text: &[u8]) -> Result<()> {
     }
 }
 
-fn is_syntax(alloc: Global, text: &[u8]) -> bool {
-    matches!(
-        read_library(alloc, text, &Limits::standard()),
-        Err(FileRefusal::Syntax { .. })
-    )
+type Spot = (u32, u32);
+
+/// The line and the column at which a text is refused.
+fn refused_at(alloc: Global, text: &[u8]) -> Option<Spot> {
+    match read_library(alloc, text, &Limits::standard()) {
+        Err(FileRefusal::Syntax { line, column }) => Some((line, column)),
+        _ => None,
+    }
+}
+
+/// The line and the column after a text that has the byte, where this is the one before.
+fn after(spot: Spot, byte: u8) -> Spot {
+    match byte {
+        b'\n' => (spot.0.saturating_add(1), 1),
+        _ => (spot.0, spot.1.saturating_add(1)),
+    }
 }
 
 fn show_beginnings<R: Print + Alloc<A = Global>>(rt: &R, text: &[u8]) -> Result<()> {
-    let mut refused = 0u64;
+    let mut end = (1, 1);
+    let mut at_ends = 0u64;
     for length in 0..text.len() {
-        if is_syntax(rt.alloc(), &text[..length]) {
-            refused = refused.saturating_add(1);
+        match refused_at(rt.alloc(), &text[..length]) {
+            Some(spot) if spot == end => at_ends = at_ends.saturating_add(1),
+            Some((line, column)) => {
+                println!(rt; "{length} bytes: syntax at line {line} column {column}")?;
+            }
+            None => println!(rt; "{length} bytes: another answer")?,
         }
+        end = after(end, text[length]);
     }
-    println!(rt;
-        "of its {} shorter beginnings {refused} are refused",
-        text.len()
-    )?;
+    println!(rt; "{at_ends} beginnings: syntax at their ends")?;
     Ok(())
 }
 

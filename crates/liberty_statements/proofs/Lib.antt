@@ -1,0 +1,5 @@
+pub mod Simple
+pub mod Follows
+pub mod Groups
+pub mod Takes
+pub mod WholeText
