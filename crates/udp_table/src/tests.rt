@@ -79,15 +79,6 @@ fn a_level_row_decides_before_an_edge_row(rt: HostRuntime) -> Result<(), Fail> {
 }
 
 #[test]
-fn a_copy_answers_the_same(rt: HostRuntime) -> Result<(), Fail> {
-    let alloc = rt.alloc();
-    let udp = build(alloc, &primitive(alloc, true, 3, &["1r?:?:1"])?)?;
-    let copy = udp.copied(alloc)?;
-    assert_eq!(rt; step(&rt, &copy, 1, ZERO, &[ONE, ONE, ZERO], X), ONE);
-    Ok(())
-}
-
-#[test]
 fn rows_that_conflict_are_told_by_number(rt: HostRuntime) -> Result<(), Fail> {
     let alloc = rt.alloc();
     let three = primitive(alloc, true, 3, &["??1:?:0", "1r?:?:1", "?r0:?:0"])?;
