@@ -1,0 +1,20 @@
+//! The grammar of the parts of a Verilog source text.
+#![tactic(auto)]
+
+mod halt;
+mod look;
+mod module_actions;
+mod module_moves;
+mod module_phase;
+mod module_reader;
+mod module_text;
+mod names;
+mod ports;
+
+pub use halt::{Halt, Refusal};
+pub use look::{Look, look_of};
+pub use module_phase::{ModuleAction, ModuleMove, ModulePhase};
+pub use module_reader::ModuleReader;
+pub use module_text::{Declared, ModuleText};
+pub use names::{content, is_name, is_too_long, text, word_of};
+pub use ports::Ports;
