@@ -1,1 +1,4 @@
 pub mod PortLists
+pub mod Repeats
+pub mod Binds
+pub mod ModuleSimple

@@ -8,3 +8,7 @@ pub mod ModuleGrammar
 pub mod ModuleMoves
 pub mod ModuleBounds
 pub mod ModuleToCome
+pub mod UdpActions
+pub mod UdpGrammar
+pub mod UdpMoves
+pub mod UdpToCome

@@ -321,6 +321,9 @@ is_symbol b =
     b == 48 || b == 49 || b == 120 || b == 88 || b == 63 || b == 98 || b == 66 || b == 45 || b == 114 || b == 82 || b == 102
     || b == 70 || b == 112 || b == 80 || b == 110 || b == 78 || b == 42 || b == 58 || b == 40 || b == 41
 
+abbrev pub has_symbols : List ℕ → Bool
+has_symbols bs = list_all is_symbol bs
+
 -- a symbol of a table, or several
 unfoldable pub are_symbols : List ℕ → Left → Bool
-are_symbols source t = is_symbolic (look_of source t) && list_all is_symbol (text source t.token)
+are_symbols source t = is_symbolic (look_of source t) && has_symbols (text source t.token)
