@@ -41,6 +41,10 @@ module _ (source : List ℕ) (limits : Limits) where
       first looks.Inout e = λ t g. rw g refl
       first _ e = absurd cc
 
+  pub further_port : (next : Left → Bool) → IsSimple (act source limits is_comma actions.Keep (port source limits)) next
+  unfolding IsSimple
+  further_port next = λ t e. port_simple next
+
   -- a comma before further things, and another sign after them
   commas : (a : ModuleRule) (next : Left → Bool) → ((other : Left → Bool) → IsSimple a other) → Not looks.Comma next → IsSimple (many (act source limits is_comma actions.Keep a)) next
   unfolding IsSimple
@@ -55,6 +59,14 @@ module _ (source : List ℕ) (limits : Limits) where
   pub names_simple : (next : Left → Bool) → IsSimple (names source limits) next
   unfolding names declared_name further_names names_end IsSimple
   names_simple next = (((λ t e. tt), commas (declared_name source limits) _ (λ other t e. tt) (λ t g. rw g refl)), (λ t e. tt))
+
+  pub further_name : (next : Left → Bool) → IsSimple (act source limits is_comma actions.Keep (declared_name source limits)) next
+  unfolding declared_name IsSimple
+  further_name next = λ t e u g. tt
+
+  pub beside_one : (line : ℕ) (next : Left → Bool) → IsSimple (one (is_beside source line) (λ t s. perform source limits actions.Keep t s) (λ t. none)) next
+  unfolding IsSimple
+  beside_one line next = λ t e. tt
 
   -- ---- delays
 

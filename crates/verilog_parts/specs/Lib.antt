@@ -12,3 +12,4 @@ pub mod UdpActions
 pub mod UdpGrammar
 pub mod UdpMoves
 pub mod UdpToCome
+pub mod UdpBounds

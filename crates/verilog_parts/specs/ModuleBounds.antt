@@ -11,7 +11,9 @@ open_parentheses _ = 0
 abbrev pub IsBounded : ModulePhase → Type 0
 IsBounded p = open_parentheses p + 1 < 2 ^ 64
 
--- where a delay is read a parenthesis is open
-abbrev pub IsPlaced : ModulePhase → Type 0
-IsPlaced (phases.Delay o depth) = 1 ≤ depth
-IsPlaced _ = Unit {0}
+-- An item can be taken: the module hasn't ended, and in a delay a parenthesis is open, and there are fewer open ones
+-- than may be nested.
+abbrev pub IsOpen : ℕ → ModulePhase → Type 0
+IsOpen n phases.Done = ⊥
+IsOpen n (phases.Delay o depth) = (1 ≤ depth) × (depth < n)
+IsOpen n _ = 1 ≤ n
