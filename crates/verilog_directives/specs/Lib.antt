@@ -1,1 +1,9 @@
+pub mod Words
+pub mod Signs
+pub mod Conditions
 pub mod Left
+pub mod NameSet
+pub mod Held
+pub mod Lookahead
+pub mod Orders
+pub mod Directives

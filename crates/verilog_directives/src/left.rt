@@ -23,4 +23,3 @@ pub struct Left {
     pub token: Token,
     pub role: Role,
 }
-

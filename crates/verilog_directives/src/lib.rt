@@ -1,8 +1,25 @@
-//! Stub.
+//! The tokens of a Verilog text that are left when its compiler directives are obeyed (IEEE 1364-2005, clause 19).
 #![tactic(auto)]
 
+mod condition;
+mod conditions;
+mod directives;
+mod held;
 mod left;
-mod reading;
+mod line;
+mod lookahead;
+mod looking;
+mod names;
+mod obeying;
+mod order;
+mod ordering;
+mod signs;
+mod word;
 
+pub use directives::Directives;
 pub use left::{Left, Role};
-pub use reading::Directives;
+pub use signs::name_in;
+pub use word::is_reserved;
+
+#[cfg(test)]
+mod tests;

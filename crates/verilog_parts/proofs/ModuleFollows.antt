@@ -237,13 +237,15 @@ module _ (source : List ℕ) (limits : Limits) (n : ℕ) where
   line_item line = one (is_beside source line) (λ u r. perform source limits actions.Keep u r) (λ u. none)
 
   abbrev line_ends : ℕ → Reading → Reading
-  line_ends line r = specify_ended ((r >>= on (before (is_off line))) >>= on (specified source limits))
+  line_ends line r = specify_ended ((r >>= on (before (is_off source line))) >>= on (specified source limits))
 
   beside_ok : (line : ℕ) (l : Look) (s : ModuleText) (t : Left) (ts : List Left) → (t.token.span.line == line) ≡ true → look_of source t ≡ l
       → read (to_come source limits n (phases.SpecifyLine line)) s (t ∷ ts) ≡ outcome (beside line l) t s ts
   unfolding beside_line
-  beside_ok line looks.Barred s t ts e h = ap (line_ends line) (ends (line_item line) s t ts (rw (e, h) refl)) ∙ rw e refl
-  beside_ok line looks.End s t ts e h = ap (line_ends line) (ends (line_item line) s t ts (rw (e, h) refl)) ∙ rw e refl
+  beside_ok line looks.Barred s t ts e h = ap (line_ends line) (ends (line_item line) s t ts (rw (e, h) refl)) ∙ rw (e, h) refl
+  beside_ok line looks.End s t ts e h =
+      let off : read (before (is_off source line)) s (t ∷ ts) ≡ Ok (s, t ∷ ts) = rw (e, h) refl in
+      ap (line_ends line) (ends (line_item line) s t ts (rw (e, h) refl)) ∙ ap (λ r. specify_ended (r >>= on (specified source limits))) off ∙ specify_ok looks.End s t ts h
   beside_ok line l s t ts e h = ap (line_ends line) (turns (line_item line) (λ u. false) (beside_one source limits line _) refl s t ts (rw (e, h) refl)) ∙ rw (e, h, kept t s) refl
 
   off_ok : (line : ℕ) (s : ModuleText) (t : Left) (ts : List Left) → (t.token.span.line == line) ≡ false

@@ -8,7 +8,7 @@ use Rattle.verilog_parts.specs.declared.look.Look.{Look}
 use Rattle.verilog_parts.specs.declared.look.Look.TheVariants as looks
 use Rattle.verilog_parts.specs.declared.module_phase.ModuleAction.{ModuleAction}
 use Rattle.verilog_parts.specs.declared.module_phase.ModuleAction.TheVariants as actions
-use Rattle.verilog_parts.specs.Looks.{look_of, is_name, is_gate, is_buffer, is_end_module, is_direction, is_net, is_declaration, is_specify, is_end_specify, is_constant, is_number, is_open, is_close, is_comma, is_semicolon, is_hash, is_macro, is_passed, is_between, is_specified}
+use Rattle.verilog_parts.specs.Looks.{look_of, is_name, is_gate, is_buffer, is_end_module, is_direction, is_net, is_declaration, is_specify, is_end_specify, is_constant, is_number, is_open, is_close, is_comma, is_semicolon, is_hash, is_macro, is_end, is_passed, is_between, is_specified}
 use Rattle.verilog_parts.specs.ModuleActions.{perform}
 use Rattle.verilog_parts.specs.ModuleGrammar.{ModuleRule, act, is_beside, is_off, port_name, net_port, port, further_ports, declared_name, further_names, names_end, names, declaration, closing, parentheses, between, delay_value, delay, last, terminal, further_terminals, terminals_end, terminals, connections, instance, further_instances, instances_end, instances, delayed, elements, beside_line, macro_line, specified, specify_end, specify, item, module_end, items, header_end, ports_end, listed, ports, module_body}
 
@@ -198,13 +198,15 @@ module _ (source : List ℕ) (limits : Limits) where
 
   -- ---- specify blocks
 
-  on_not_off : (x y z : Bool) → (x && y) ≡ true → ((if x then false else true) || (false && z)) ≡ false
-  on_not_off true y z e = refl
-  on_not_off false y z e = absurd cc
+  on_not_off : (x z : Bool) (l : Look) → (x && is_passed l) ≡ true → ((if x then is_end l else true) || (false && z)) ≡ false
+  on_not_off true z looks.Barred e = absurd cc
+  on_not_off true z looks.End e = absurd cc
+  on_not_off true z l e = refl
+  on_not_off false z l e = absurd cc
 
   pub beside_simple : (line : ℕ) (next : Left → Bool) → IsSimple (beside_line source limits line) next
   unfolding beside_line IsSimple
-  beside_simple line next = ((refl, refl, (λ t e. on_not_off (t.token.span.line == line) (is_passed (look_of source t)) (next t) e), (λ t e. tt)), tt)
+  beside_simple line next = ((refl, refl, (λ t e. on_not_off (t.token.span.line == line) (next t) (look_of source t) e), (λ t e. tt)), tt)
 
   pub specified_one : (next : Left → Bool) → IsSimple (alt (act source limits is_specified actions.Keep none) (macro_line source limits)) next
   unfolding macro_line IsSimple

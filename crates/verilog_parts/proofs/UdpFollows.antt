@@ -7,7 +7,7 @@ use Rattle.verilog_directives.specs.declared.left.Left.{Left}
 use Rattle.verilog_parts.specs.declared.halt.Refusal.{Refusal}
 use Rattle.verilog_parts.specs.declared.look.Look.{Look}
 use Rattle.verilog_parts.specs.declared.look.Look.TheVariants as looks
-use Rattle.verilog_parts.specs.declared.udp_text.UdpText.{UdpText}
+use Rattle.verilog_parts.specs.declared.udp_text.PrimitiveText.{PrimitiveText}
 use Rattle.verilog_parts.specs.declared.udp_phase.UdpPhase.{UdpPhase}
 use Rattle.verilog_parts.specs.declared.udp_phase.UdpPhase.TheVariants as phases
 use Rattle.verilog_parts.specs.declared.udp_phase.UdpAction.{UdpAction}
@@ -25,22 +25,22 @@ use Rattle.verilog_parts.proofs.Repeats.{turns, ends}
 use Rattle.verilog_parts.proofs.UdpSimple.{further_port, further_name, declaration_simple, symbols_one, row_simple, stated_one}
 
 module _ (source : List ℕ) (limits : Limits) where
-  abbrev on : UdpRule → UdpText × List Left → Reading
+  abbrev on : UdpRule → PrimitiveText × List Left → Reading
   on c x = read c x.0 x.1
 
   -- what reading gives where an item does this
-  abbrev pub outcome : UdpMove → Left → UdpText → List Left → Reading
+  abbrev pub outcome : UdpMove → Left → PrimitiveText → List Left → Reading
   outcome moves.Stop t s ts = Err (syntax (t ∷ ts))
   outcome (moves.Go a p) t s ts = acting (perform_udp source limits a t s) (λ m. read (to_come source limits p) m ts) (λ e. Err (refusal e (t ∷ ts)))
 
   abbrev Follows : UdpPhase → UdpMove → Look → Type 0
-  Follows p move l = (s : UdpText) (t : Left) (ts : List Left) → look_of source t ≡ l → read (to_come source limits p) s (t ∷ ts) ≡ outcome move t s ts
+  Follows p move l = (s : PrimitiveText) (t : Left) (ts : List Left) → look_of source t ≡ l → read (to_come source limits p) s (t ∷ ts) ≡ outcome move t s ts
 
-  kept : (t : Left) (s : UdpText) → perform_udp source limits actions.Keep t s ≡ Ok s
+  kept : (t : Left) (s : PrimitiveText) → perform_udp source limits actions.Keep t s ≡ Ok s
   unfolding perform_udp
   kept t s = refl
 
-  abbrev of : UdpAction → Left → UdpText → Result UdpText Refusal
+  abbrev of : UdpAction → Left → PrimitiveText → Result PrimitiveText Refusal
   of a t s = perform_udp source limits a t s
 
   abbrev comma : UdpRule → UdpRule
@@ -90,12 +90,12 @@ module _ (source : List ℕ) (limits : Limits) where
   abbrev last_declared : Reading → Reading
   last_declared r = r >>= on (after_declarations source limits)
 
-  turn_declaration : (s : UdpText) (t : Left) (ts : List Left) → begins (udp_declaration source limits) t ≡ true
+  turn_declaration : (s : PrimitiveText) (t : Left) (ts : List Left) → begins (udp_declaration source limits) t ≡ true
       → read (declarations source limits) s (t ∷ ts) ≡ last_declared (read (udp_declaration source limits) s (t ∷ ts) >>= on (many (udp_declaration source limits)))
   unfolding declarations udp_declaration
   turn_declaration s t ts h = ap last_declared (turns (udp_declaration source limits) (λ u. false) (declaration_simple source limits _) refl s t ts h)
 
-  end_declarations : (s : UdpText) (t : Left) (ts : List Left) → begins (udp_declaration source limits) t ≡ false → read (declarations source limits) s (t ∷ ts) ≡ read (after_declarations source limits) s (t ∷ ts)
+  end_declarations : (s : PrimitiveText) (t : Left) (ts : List Left) → begins (udp_declaration source limits) t ≡ false → read (declarations source limits) s (t ∷ ts) ≡ read (after_declarations source limits) s (t ∷ ts)
   unfolding declarations
   end_declarations s t ts h = ap last_declared (ends (udp_declaration source limits) s t ts h)
 
@@ -152,7 +152,7 @@ module _ (source : List ℕ) (limits : Limits) where
   abbrev row_ends : Reading → Reading
   row_ends r = rows_end ((r >>= on (row_end source limits)) >>= on (many (row source limits)))
 
-  row_ok : (b : Bool) (l : Look) (s : UdpText) (t : Left) (ts : List Left) → are_symbols source t ≡ b → look_of source t ≡ l
+  row_ok : (b : Bool) (l : Look) (s : PrimitiveText) (t : Left) (ts : List Left) → are_symbols source t ≡ b → look_of source t ≡ l
       → read (to_come source limits phases.Row) s (t ∷ ts) ≡ outcome (at_row b l) t s ts
   unfolding row symbols row_end rows
   row_ok true l s t ts e h =
@@ -161,11 +161,11 @@ module _ (source : List ℕ) (limits : Limits) where
   row_ok false _ s t ts e h = ap row_ends (ends symbol_item s t ts e) ∙ rw h refl
 
   -- rows go on where a row begins
-  rows_turn : (s : UdpText) (t : Left) (ts : List Left) → begins (row source limits) t ≡ true → read (rows source limits) s (t ∷ ts) ≡ read (to_come source limits phases.Row) s (t ∷ ts)
+  rows_turn : (s : PrimitiveText) (t : Left) (ts : List Left) → begins (row source limits) t ≡ true → read (rows source limits) s (t ∷ ts) ≡ read (to_come source limits phases.Row) s (t ∷ ts)
   unfolding rows row symbols row_end
   rows_turn s t ts b = ap rows_end (turns (row source limits) (λ u. false) (row_simple source limits _) refl s t ts b)
 
-  rows_stop : (s : UdpText) (t : Left) (ts : List Left) → begins (row source limits) t ≡ false → read (rows source limits) s (t ∷ ts) ≡ read (table_end source limits) s (t ∷ ts)
+  rows_stop : (s : PrimitiveText) (t : Left) (ts : List Left) → begins (row source limits) t ≡ false → read (rows source limits) s (t ∷ ts) ≡ read (table_end source limits) s (t ∷ ts)
   unfolding rows
   rows_stop s t ts b = ap rows_end (ends (row source limits) s t ts b)
 
@@ -178,7 +178,7 @@ module _ (source : List ℕ) (limits : Limits) where
   unfolding are_symbols
   end_table t h = rw h refl
 
-  rows_ok : (b : Bool) (l : Look) (s : UdpText) (t : Left) (ts : List Left) → are_symbols source t ≡ b → look_of source t ≡ l
+  rows_ok : (b : Bool) (l : Look) (s : PrimitiveText) (t : Left) (ts : List Left) → are_symbols source t ≡ b → look_of source t ≡ l
       → read (to_come source limits phases.Rows) s (t ∷ ts) ≡ outcome (at_rows b l) t s ts
   unfolding table_end
   rows_ok b looks.EndTable s t ts e h = let no = end_table t h in rows_stop s t ts (begins_row t ∙ rw (no, h) refl) ∙ rw h refl
@@ -193,7 +193,7 @@ module _ (source : List ℕ) (limits : Limits) where
 
   -- ---- all of them
 
-  pub follows : (p : UdpPhase) (s : UdpText) (t : Left) (ts : List Left) → IsOpen p
+  pub follows : (p : UdpPhase) (s : PrimitiveText) (t : Left) (ts : List Left) → IsOpen p
       → read (to_come source limits p) s (t ∷ ts) ≡ outcome (udp_move p (are_symbols source t) (look_of source t)) t s ts
   follows phases.Header s t ts d = header_ok (look_of source t) s t ts refl
   follows phases.Port s t ts d = port_ok (look_of source t) s t ts refl

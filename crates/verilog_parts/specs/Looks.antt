@@ -118,15 +118,20 @@ kind_look kinds.Unfinished w = looks.Barred
 kind_look kinds.LineEnd w = looks.Barred
 kind_look kinds.End w = looks.End
 
-abbrev pub role_look : Role → Look → Look
-role_look roles.Plain l = l
-role_look roles.Macro l = looks.Macro
-role_look roles.Misplaced l = looks.Barred
-role_look roles.TooDeep l = looks.Barred
-role_look roles.LongName l = looks.Barred
+-- the text's end is no macro
+abbrev pub macro_look : Kind → Look
+macro_look kinds.End = looks.Barred
+macro_look _ = looks.Macro
+
+abbrev pub role_look : Role → Kind → List ℕ → Look
+role_look roles.Plain kind w = kind_look kind w
+role_look roles.Macro kind w = macro_look kind
+role_look roles.Misplaced kind w = looks.Barred
+role_look roles.TooDeep kind w = looks.Barred
+role_look roles.LongName kind w = looks.Barred
 
 unfoldable pub look_of : List ℕ → Left → Look
-look_of source t = role_look t.role (kind_look t.token.kind (text source t.token))
+look_of source t = role_look t.role t.token.kind (text source t.token)
 
 -- ---- tests
 

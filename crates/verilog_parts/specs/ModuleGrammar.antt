@@ -23,8 +23,9 @@ act source limits p a follows = one (λ t. p (look_of source t)) (λ t s. perfor
 abbrev pub is_beside : List ℕ → ℕ → Left → Bool
 is_beside source line t = t.token.span.line == line && looks.is_passed (look_of source t)
 
-abbrev pub is_off : ℕ → Left → Bool
-is_off line t = if t.token.span.line == line then false else true
+-- the line has ended before an item
+abbrev pub is_off : List ℕ → ℕ → Left → Bool
+is_off source line t = if t.token.span.line == line then looks.is_end (look_of source t) else true
 
 module _ (source : List ℕ) (limits : Limits) where
   -- ---- the header
@@ -126,7 +127,7 @@ module _ (source : List ℕ) (limits : Limits) where
 
   -- the rest of a line
   unfoldable pub beside_line : ℕ → ModuleRule
-  beside_line line = seq (many (one (is_beside source line) (λ t s. perform source limits Keep t s) (λ t. none))) (before (is_off line))
+  beside_line line = seq (many (one (is_beside source line) (λ t s. perform source limits Keep t s) (λ t. none))) (before (is_off source line))
 
   -- a directive or macro that isn't obeyed, and what stands on its line
   unfoldable pub macro_line : ModuleRule

@@ -5,7 +5,7 @@ use Rattle.grammar.specs.Rule.{Rule, none, one, seq, alt, many}
 use Rattle.verilog_directives.specs.declared.left.Left.{Left}
 use Rattle.verilog_parts.specs.declared.halt.Refusal.{Refusal}
 use Rattle.verilog_parts.specs.declared.look.Look.{Look}
-use Rattle.verilog_parts.specs.declared.udp_text.UdpText.{UdpText}
+use Rattle.verilog_parts.specs.declared.udp_text.PrimitiveText.{PrimitiveText}
 use Rattle.verilog_parts.specs.declared.udp_phase.UdpAction.{UdpAction}
 use Rattle.verilog_parts.specs.declared.udp_phase.UdpAction.TheVariants.{Keep, BeginOutput, BeginOutputReg, BeginInput, AddPort, BeginDeclaration, Declare, AddSymbols, EndRow}
 use Rattle.verilog_parts.specs.Looks as looks
@@ -13,7 +13,7 @@ use Rattle.verilog_parts.specs.Looks.{look_of, are_symbols}
 use Rattle.verilog_parts.specs.UdpActions.{perform_udp}
 
 abbrev pub UdpRule : Type 0
-UdpRule = Rule Left UdpText Refusal
+UdpRule = Rule Left PrimitiveText Refusal
 
 -- an item that looks so, what it adds, and then what follows
 abbrev pub act : List ℕ → Limits → (Look → Bool) → UdpAction → UdpRule → UdpRule

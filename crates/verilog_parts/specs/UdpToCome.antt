@@ -5,7 +5,7 @@ use Rattle.grammar.specs.Rule.{none, seq, many}
 use Rattle.grammar.specs.Reading.{Stop, read}
 use Rattle.verilog_directives.specs.declared.left.Left.{Left}
 use Rattle.verilog_parts.specs.declared.halt.Refusal.{Refusal}
-use Rattle.verilog_parts.specs.declared.udp_text.UdpText.{UdpText}
+use Rattle.verilog_parts.specs.declared.udp_text.PrimitiveText.{PrimitiveText}
 use Rattle.verilog_parts.specs.declared.udp_phase.UdpPhase.{UdpPhase}
 use Rattle.verilog_parts.specs.declared.udp_phase.UdpPhase.TheVariants as phases
 use Rattle.verilog_parts.specs.declared.udp_reader.UdpReader.{UdpReader}
@@ -33,7 +33,7 @@ to_come source limits phases.TableEnd = udp_end source limits
 to_come source limits phases.Done = none
 
 abbrev pub Reading : Type 0
-Reading = Result (UdpText × List Left) (Stop Left Refusal)
+Reading = Result (PrimitiveText × List Left) (Stop Left Refusal)
 
 -- what reading on gives
 abbrev pub reads : List ℕ → Limits → UdpReader → List Left → Reading

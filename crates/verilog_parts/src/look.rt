@@ -267,6 +267,15 @@ fn kind_look(kind: Kind, shown: &[u8]) -> Look
     }
 }
 
+fn macro_look(kind: Kind) -> Look
+    ensures { result ≡ spec.macro_look kind }
+{
+    match kind {
+        Kind::End => Look::Barred,
+        _ => Look::Macro,
+    }
+}
+
 /// What the item is for the grammar.
 #[tactic(auto, unfolding(crate::specs::Looks::look_of))]
 pub fn look_of(source: &[u8], item: &Left) -> Look
@@ -274,7 +283,7 @@ pub fn look_of(source: &[u8], item: &Left) -> Look
 {
     match item.role {
         Role::Plain => kind_look(item.token.kind, text(source, item.token)),
-        Role::Macro => Look::Macro,
+        Role::Macro => macro_look(item.token.kind),
         Role::Misplaced => Look::Barred,
         Role::TooDeep => Look::Barred,
         Role::LongName => Look::Barred,

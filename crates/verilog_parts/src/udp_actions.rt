@@ -9,7 +9,7 @@ use crate::look::{Look, look_of};
 use crate::names::{content, is_name, is_too_long, text};
 use crate::row::Row;
 use crate::udp_phase::UdpAction;
-use crate::udp_text::{UdpDeclared, UdpText};
+use crate::udp_text::{UdpDeclared, PrimitiveText};
 use name_index::Names;
 use std::alloc::Global;
 use text_scan::{Items, LimitKind, Limits};
@@ -26,11 +26,11 @@ fn declared_of(look: Look) -> UdpDeclared
     }
 }
 
-impl UdpText {
-    pub fn new(alloc: Global) -> UdpText
+impl PrimitiveText {
+    pub fn new(alloc: Global) -> PrimitiveText
         ensures { result ≡ spec.no_udp }
     {
-        UdpText {
+        PrimitiveText {
             ports: Names::new(alloc),
             has_output: false,
             sequential: false,

@@ -9,7 +9,7 @@ use crate::look::{Look, look_of};
 use crate::names::text;
 use crate::udp_moves::udp_move;
 use crate::udp_phase::{UdpMove, UdpPhase};
-use crate::udp_text::UdpText;
+use crate::udp_text::PrimitiveText;
 use std::alloc::Global;
 use text_scan::Limits;
 use verilog_directives::Left;
@@ -18,7 +18,7 @@ use verilog_directives::Left;
 #[derive(Drop)]
 pub struct UdpReader {
     pub phase: UdpPhase,
-    pub text: UdpText,
+    pub text: PrimitiveText,
 }
 
 #[tactic(auto, unfolding(crate::specs::Looks::is_symbol))]
@@ -84,7 +84,7 @@ impl UdpReader {
     {
         UdpReader {
             phase: UdpPhase::Header,
-            text: UdpText::new(alloc),
+            text: PrimitiveText::new(alloc),
         }
     }
 

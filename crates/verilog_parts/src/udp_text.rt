@@ -20,7 +20,7 @@ pub enum UdpDeclared {
 
 /// What has been read of a primitive after its name.
 #[derive(Drop)]
-pub struct UdpText {
+pub struct PrimitiveText {
     /// The names of the ports in their order.
     pub ports: Names,
     /// Whether a declaration names the output.

@@ -1,0 +1,6 @@
+pub mod NameSets
+pub mod Looks
+pub mod Reversed
+pub mod Orders
+pub mod Turns
+pub mod NextTurn

@@ -1,0 +1,16 @@
+use Rattle.std.proofs.Common.{◌≡◌, ◌++◌, drop, sym, ap, ◌∙◌}
+use Rattle.std.proofs.lemmas.List.{drop-append-le}
+use Rattle.text_scan.specs.Left.{left}
+use Rattle.verilog_directives.specs.Held.{tokens}
+use Rattle.verilog_directives.specs.Lookahead.{to_come}
+use Rattle.verilog_directives.proofs.Looks.{inside_drop}
+use Rattle.verilog_directives.proofs.lookahead.Lookahead.skip.Goals as goal
+
+pub invariant_of-self-clause-inside : goal.invariant_of-self-clause-inside
+invariant_of-self-clause-inside c = inside_drop _ c.args.n c.args.self.now.held _ c.args.self.now.inside c.without-self.ensures
+
+pub returns-clause-to_come : goal.returns-clause-to_come
+unfolding to_come
+returns-clause-to_come c =
+    let self = c.args.self.now in
+    ap (λ z. z ++ left self.cursor) c.without-self.ensures ∙ sym (drop-append-le c.args.n (tokens self.held) (left self.cursor) c.requires)

@@ -1,0 +1,35 @@
+ghost use Rattle.std.specs.Prelude.{◌≡◌};
+ghost use Rattle.verilog_directives.specs.Left as spec;
+
+use text_scan::Token;
+
+/// What becomes of the rest of a line.
+#[derive(Clone, Copy, Debug, PartialEq, Eq)]
+pub(crate) enum Line {
+    /// No directive asks for anything.
+    Free,
+    /// The tokens that begin on this line are passed over.
+    Passed(u32),
+    /// The tokens that begin on this line stand as they are.
+    Kept(u32),
+}
+
+impl Line {
+    pub(crate) fn passes(self, token: Token) -> bool
+        ensures { result ≡ spec.is_passed self token }
+    {
+        match self {
+            Line::Passed(line) => token.span.line == line,
+            Line::Free | Line::Kept(_) => false,
+        }
+    }
+
+    pub(crate) fn keeps(self, token: Token) -> bool
+        ensures { result ≡ spec.is_kept self token }
+    {
+        match self {
+            Line::Kept(line) => token.span.line == line,
+            Line::Free | Line::Passed(_) => false,
+        }
+    }
+}
