@@ -23,7 +23,7 @@ act source limits p a follows = one (λ t. p (look_of source t)) (λ t f. perfor
 module _ (source : List ℕ) (limits : Limits) where
   -- the rest of a line
   unfoldable pub line_rest : ℕ → FileRule
-  line_rest line = seq (many (one (is_beside source line) (λ t f. perform_file source limits Keep t f) (λ t. none))) (before (is_off line))
+  line_rest line = seq (many (one (is_beside source line) (λ t f. perform_file source limits Keep t f) (λ t. none))) (before (is_off source line))
 
   -- a directive or macro that isn't obeyed, and what stands on its line
   unfoldable pub passed_line : FileRule

@@ -37,14 +37,14 @@ at_top line looks.Primitive = Go actions.CountPrimitive phases.PrimitiveWord
 at_top line looks.End = Go actions.End phases.Done
 at_top line _ = Stop
 
--- an item on the line that is passed over
-abbrev pub on_line : ℕ → Look → FileMove
-on_line begun looks.Barred = Stop
-on_line begun looks.End = Stop
-on_line begun _ = Go actions.Keep (phases.Line begun)
+-- an item on the line that is passed over, which ends with the text if not before
+abbrev pub on_line : ℕ → ℕ → Look → FileMove
+on_line begun line looks.Barred = Stop
+on_line begun line looks.End = at_top line looks.End
+on_line begun line _ = Go actions.Keep (phases.Line begun)
 
 abbrev pub at_line : Bool → ℕ → ℕ → Look → FileMove
-at_line true begun line l = on_line begun l
+at_line true begun line l = on_line begun line l
 at_line false begun line l = at_top line l
 
 abbrev pub at_module_word : Look → FileMove

@@ -17,12 +17,13 @@ fn at_top(line: u32, look: Look) -> FileMove
     }
 }
 
-fn on_line(line: u32, look: Look) -> FileMove
-    ensures { result ≡ spec.on_line line look }
+fn on_line(begun: u32, line: u32, look: Look) -> FileMove
+    ensures { result ≡ spec.on_line begun line look }
 {
     match look {
-        Look::Barred | Look::End => FileMove::Stop,
-        _ => FileMove::Go(FileAction::Keep, FilePhase::Line { line }),
+        Look::Barred => FileMove::Stop,
+        Look::End => at_top(line, look),
+        _ => FileMove::Go(FileAction::Keep, FilePhase::Line { line: begun }),
     }
 }
 
@@ -30,7 +31,7 @@ fn at_line(begun: u32, line: u32, look: Look) -> FileMove
     ensures { result ≡ spec.at_line (line == begun) begun line look }
 {
     if line == begun {
-        on_line(begun, look)
+        on_line(begun, line, look)
     } else {
         at_top(line, look)
     }

@@ -1,10 +1,9 @@
 //! The public call.
 ghost use Rattle.std.specs.Prelude.{◌≡◌};
 ghost use Rattle.verilog_reader.specs.File.{FileAnswer, IsSource};
-ghost use Rattle.verilog_reader.specs.Promise.{IsAnswered, IsWithin, told};
+ghost use Rattle.verilog_reader.specs.Promise.{IsAnswered, IsWithin, source_of, told};
 ghost use Rattle.verilog_reader.specs.Told.{Agrees};
 
-use crate::file_reader::FileReader;
 use crate::file_text::FileText;
 use crate::reading::read_file;
 use std::alloc::Global;
@@ -13,7 +12,7 @@ use verilog_source::Source;
 
 // The parts that were read.
 fn source_of(file: FileText) -> Source
-    ensures { result ≡ spec.source_of file }
+    ensures { result ≡ source_of file }
 {
     let FileText {
         names: _,

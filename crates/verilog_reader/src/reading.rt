@@ -32,11 +32,9 @@ pub fn read_file(
 {
     let mut reader = FileReader::new(alloc);
     let mut directives = Directives::new(alloc, source, limits);
-    let mut item = directives.next(alloc)?;
-    'items: while !is_last(&item) {
+    'items: while !reader.is_done() {
+        let item = directives.next(alloc)?;
         reader.take(alloc, source, limits, &item)?;
-        item = directives.next(alloc)?;
     }
-    reader.take(alloc, source, limits, &item)?;
     Ok(reader.into_text())
 }
