@@ -13,17 +13,17 @@ use Rattle.verilog_parts.specs.declared.halt.Refusal.{Refusal}
 use Rattle.verilog_reader.specs.FileGrammar.{anything}
 use Rattle.verilog_reader.specs.File.{First, IsFirst}
 
-one_item : {S : Type 0} → Rule Left S Refusal
-one_item = one (λ t. true) (λ t s. Ok s) (λ t. none)
+abbrev any_item : (S : Type 0) → Rule Left S Refusal
+any_item S = one (λ t. true) (λ t s. Ok s) (λ t. none)
 
-one_simple : {S : Type 0} (next : Left → Bool) → IsSimple (one {S = S} {E = Refusal} (λ t. true) (λ t s. Ok s) (λ t. none)) next
+one_simple : (S : Type 0) (next : Left → Bool) → IsSimple (any_item S) next
 unfolding IsSimple
-one_simple next t e = tt
+one_simple S next t e = tt
 
 -- anything is read to its end
 anything_read : {S : Type 0} (s : S) (ts : List Left) → read (anything {S = S}) s ts ≡ Ok (s, [])
 anything_read s [] = refl
-anything_read {S} s (t ∷ ts) = many_turn (one {S = S} {E = Refusal} (λ t. true) (λ t s. Ok s) (λ t. none)) (λ t. false) (one_simple _) refl s (t ∷ ts) refl ∙ anything_read s ts
+anything_read {S} s (t ∷ ts) = many_turn (any_item S) (λ t. false) (one_simple S _) refl s (t ∷ ts) refl ∙ anything_read s ts
 
 -- the rule is simple, whatever follows it
 abbrev pub Simple : {S : Type 0} → Rule Left S Refusal → Type 0
@@ -31,7 +31,7 @@ Simple a = (next : Left → Bool) → IsSimple a next
 
 with_anything : {S : Type 0} (a : Rule Left S Refusal) → Simple a → IsSimple (seq a anything) (λ t. false)
 unfolding IsSimple
-with_anything a h = (h _, (refl, refl, (λ t e. refl), one_simple _))
+with_anything {S} a h = (h _, (refl, refl, (λ t e. refl), one_simple S (λ t. true)))
 
 read_on : {S : Type 0} (a : Rule Left S Refusal) (s : S) (ts : List Left) (o : First S) → read a s ts ≡ o → read_all (seq a anything) s ts ≡ to_end (o >>= λ x. read anything x.0 x.1)
 read_on a s ts o e = ap (λ r. to_end (r >>= λ x. read anything x.0 x.1)) e

@@ -1,1 +1,7 @@
 pub mod FirstAnswers
+pub mod OutsideFollows
+pub mod Files
+pub mod PartsFollow
+pub mod Turns
+pub mod Counts
+pub mod Whole

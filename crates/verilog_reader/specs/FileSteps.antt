@@ -108,7 +108,7 @@ module_refused source limits t m e = Err (told_refusal source limits e (t ∷ []
 
 abbrev pub in_module : List ℕ → Limits → Left → FileReader → Result ModuleReader Halt → Stepped
 in_module source limits t m (Ok r) = if modules.is_done r.phase then Ok (end_module m r) else Ok (record m { module_reader = r })
-in_module source limits t m (Err halts.NoMemory) = Err (item_refusal limits t)
+in_module source limits t m (Err halts.NoMemory) = stop_module source limits t m
 in_module source limits t m (Err halts.Syntax) = stop_module source limits t m
 in_module source limits t m (Err (halts.Refused e)) = module_refused source limits t m e
 
@@ -133,7 +133,7 @@ udp_refused source limits t m e = Err (told_refusal source limits e (t ∷ []))
 
 abbrev pub in_udp : List ℕ → Limits → Left → FileReader → Result UdpReader Halt → Stepped
 in_udp source limits t m (Ok r) = if udps.is_done r.phase then Ok (end_udp m r) else Ok (record m { udp_reader = r })
-in_udp source limits t m (Err halts.NoMemory) = Err (item_refusal limits t)
+in_udp source limits t m (Err halts.NoMemory) = stop_udp source limits t m
 in_udp source limits t m (Err halts.Syntax) = stop_udp source limits t m
 in_udp source limits t m (Err (halts.Refused e)) = udp_refused source limits t m e
 

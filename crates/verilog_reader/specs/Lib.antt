@@ -5,3 +5,4 @@ pub mod File
 pub mod Told
 pub mod FileSteps
 pub mod Promise
+pub mod Bounds
