@@ -5,3 +5,4 @@ pub mod PartsFollow
 pub mod Turns
 pub mod Counts
 pub mod Whole
+pub mod Public

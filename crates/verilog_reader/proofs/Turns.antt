@@ -68,7 +68,7 @@ module _ (source : List ℕ) (limits : Limits) (n : ℕ) where
   Turned (Ok m) Q ts = ((r : FileAnswer) → FromHere m.phase m ts r → Q r) × IsLive m.phase m
   Turned (Err e) Q ts = Q (Err e)
 
-  turned_map : (o : Stepped) (P Q : FileAnswer → Type 0) (ts : List Left) → ((r : FileAnswer) → P r → Q r) → Turned o P ts → Turned o Q ts
+  pub turned_map : (o : Stepped) (P Q : FileAnswer → Type 0) (ts : List Left) → ((r : FileAnswer) → P r → Q r) → Turned o P ts → Turned o Q ts
   turned_map (Ok m) P Q ts h t = ((λ r g. h r (t.0 r g)), t.1)
   turned_map (Err e) P Q ts h t = h (Err e) t
 

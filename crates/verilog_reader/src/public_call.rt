@@ -39,6 +39,8 @@ pub fn read_source(alloc: Global, text: &[u8], limits: &Limits) -> Result<Source
     // No other answer is there: whatever the grammar gives the text is told.
     ensures only { (o : FileAnswer) → IsSource text.now limits.now o → Agrees result (told o) }
 {
-    let file = read_file(alloc, text, limits)?;
-    Ok(source_of(file))
+    match read_file(alloc, text, limits) {
+        Err(refusal) => Err(refusal),
+        Ok(file) => Ok(source_of(file)),
+    }
 }

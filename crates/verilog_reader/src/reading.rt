@@ -33,8 +33,13 @@ pub fn read_file(
     let mut reader = FileReader::new(alloc);
     let mut directives = Directives::new(alloc, source, limits);
     'items: while !reader.is_done() {
-        let item = directives.next(alloc)?;
-        reader.take(alloc, source, limits, &item)?;
+        let item = match directives.next(alloc) {
+            Ok(item) => item,
+            Err(_) => return Err(FileRefusal::NoMemory),
+        };
+        if let Err(refusal) = reader.take(alloc, source, limits, &item) {
+            return Err(refusal);
+        }
     }
     Ok(reader.into_text())
 }
