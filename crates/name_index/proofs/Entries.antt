@@ -1,5 +1,5 @@
 -- A map that gives names their places, when a name comes.
-use Rattle.std.proofs.Common.{◌≡◌, ℕ, ◌+◌, ◌<◌, Bool, true, false, cond, eqb, List, [], ◌∷◌, ◌++◌, length, map, Option, Some, None, Ordering, refl, sym, ◌∙◌, ap, subst, inl, inr, eq-eqb, arith, length-append}
+use Rattle.std.proofs.Common.{◌≡◌, ℕ, ◌+◌, ◌<◌, Bool, true, false, cond, eqb, List, [], ◌∷◌, ◌++◌, length, Option, Some, None, Ordering, refl, sym, ◌∙◌, ap, subst, inl, inr, eq-eqb, arith, length-append}
 use Rattle.std.specs.Prelude.{slice_get, All}
 use Rattle.std.specs.declared.cmp.Ordering.TheVariants.{Less, Equal, Greater}
 use Rattle.std.specs.declared.alloc.Global.{Global}
