@@ -2,6 +2,8 @@
 #![tactic(auto)]
 
 mod names;
-mod tests;
 
 pub use names::Names;
+
+#[cfg(test)]
+mod tests;

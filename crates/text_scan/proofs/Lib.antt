@@ -4,3 +4,4 @@ pub mod Places
 pub mod Scan
 pub mod Flat
 pub mod Firm
+pub mod Moved

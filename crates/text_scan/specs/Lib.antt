@@ -5,3 +5,4 @@ pub mod Jumps
 pub mod Left
 pub mod Limits
 pub mod Firm
+pub mod Moved

@@ -18,7 +18,7 @@ mod token;
 
 pub use cursor::Cursor;
 pub use items::Items;
-pub use laws::{firm_tokens_stay, one_token_is_open};
+pub use laws::{firm_tokens_stay, one_token_is_open, parts_have_their_tokens};
 pub use limits::{LimitKind, Limits};
 pub use memory::NoMemory;
 pub use pins::{Direction, PinKind};

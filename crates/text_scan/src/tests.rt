@@ -282,3 +282,46 @@ fn items_stand_in_the_order_of_their_pushes(rt: HostRuntime) -> Result<(), Fail>
     assert_eq!(rt; items.len(), 2);
     Ok(())
 }
+
+#[test]
+fn refusals_print_as_a_refusal_line_says_them(rt: HostRuntime) -> Result<(), Fail> {
+    let name = Text::from_bytes(rt.alloc(), b"INV_X1")?;
+    let lines = format!(in rt.alloc();
+        "{}; {}; {}",
+        FileRefusal::Syntax {
+            line: 1,
+            column: 17
+        },
+        FileRefusal::TooMany {
+            kind: LimitKind::Nesting,
+            number: 32
+        },
+        FileRefusal::DoubleName { name, line: 4 }
+    )?;
+    assert_eq!(rt;
+        lines.as_str(),
+        "syntax line 1 column 17; too many nesting 32; double name INV_X1 line 4"
+    );
+    Ok(())
+}
+
+#[test]
+fn tokens_behind_a_whole_text_are_moved(rt: HostRuntime) {
+    // "a \"b\n\"" ends at a string's end, in line 2, column 2
+    let mut both = Cursor::new(b"a \"b\n\"c\nd", Style::Verilog);
+    let mut alone = Cursor::new(b"c\nd", Style::Verilog);
+    let _ = both.next_token();
+    let _ = both.next_token();
+    let (c, alone_c) = (both.next_token(), alone.next_token());
+    assert_eq!(rt;
+        (alone_c.span.line, alone_c.span.column, alone_c.span.start),
+        (1, 1, 0)
+    );
+    assert_eq!(rt; (c.span.line, c.span.column, c.span.start), (2, 2, 6));
+    let (d, alone_d) = (both.next_token(), alone.next_token());
+    assert_eq!(rt;
+        (alone_d.span.line, alone_d.span.column, alone_d.span.start),
+        (2, 1, 2)
+    );
+    assert_eq!(rt; (d.span.line, d.span.column, d.span.start), (3, 1, 8));
+}

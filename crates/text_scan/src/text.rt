@@ -2,6 +2,7 @@ ghost use Rattle.std.specs.Prelude.{◌≡◌, IfOk};
 
 use crate::NoMemory;
 use std::alloc::Global;
+use std::fmt;
 use std::marker::Model;
 
 /// A list of bytes.
@@ -44,5 +45,15 @@ impl Text {
         ensures { IfOk result (λ t. t ≡ self.now) }
     {
         Text::from_bytes(alloc, &self.bytes)
+    }
+}
+
+/// A byte prints as the character of its number, so names, which are ASCII, print as they are.
+impl fmt::Display for Text {
+    fn fmt<W: fmt::Write>(&self, f: &mut fmt::Formatter<W>) -> fmt::Result {
+        for byte in self.as_bytes() {
+            write!(f, "{}", char::from(*byte))?;
+        }
+        Ok(())
     }
 }

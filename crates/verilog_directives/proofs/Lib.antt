@@ -4,3 +4,5 @@ pub mod Reversed
 pub mod Orders
 pub mod Turns
 pub mod NextTurn
+pub mod Branches
+pub mod Plain

@@ -1,6 +1,5 @@
 -- The turn of the next token of those to come.
-use Rattle.std.proofs.Common.{◌≡◌, ℕ, Bool, true, false, not, List, [], ◌∷◌, length, drop, ◌<◌, arith, refl, sym, ap, ◌∙◌}
-use Rattle.std.specs.Prelude.{if◌then◌else◌, ◌||◌}
+use Rattle.std.proofs.Common.{◌≡◌, ℕ, true, false, List, [], ◌∷◌, length, drop, ◌<◌, arith, refl, sym, ap, ◌∙◌}
 use Rattle.text_scan.specs.declared.token.Token.{Token}
 use Rattle.text_scan.specs.declared.limits.Limits.{Limits}
 use Rattle.text_scan.specs.Left.{is_end, followed as followed_token}
@@ -10,7 +9,7 @@ use Rattle.verilog_directives.specs.declared.condition.Condition.{Condition}
 use Rattle.verilog_directives.specs.Words.{directive_of}
 use Rattle.verilog_directives.specs.Signs.{is_wrong, is_mark, word_after}
 use Rattle.verilog_directives.specs.Conditions.{is_read}
-use Rattle.verilog_directives.specs.Left.{State, Turn, item, end_item, is_passed, is_kept, after, turn, where_read, directive_turn, left_from, is_last, followed}
+use Rattle.verilog_directives.specs.Left.{State, item, end_item, is_passed, is_kept, after, turn, directive_turn, left_from, is_last, followed}
 use Rattle.verilog_directives.specs.Directives.{left_by}
 use Rattle.verilog_directives.proofs.Looks.{followed-open}
 use Rattle.verilog_directives.proofs.Turns.{followed-last, followed-more}

@@ -1,6 +1,6 @@
 -- What directives ask for.
-use Rattle.std.proofs.Common.{◌≡◌, ℕ, zero, suc, ◌<◌, ◌≤◌, Bool, true, false, not, List, [], ◌∷◌, length, drop, refl, sym, ap, subst, ◌∙◌, arith}
-use Rattle.std.specs.Prelude.{Option, Some, None, slice_get, if◌then◌else◌, ◌==◌, ◌&&◌}
+use Rattle.std.proofs.Common.{◌≡◌, ℕ, zero, suc, ◌≤◌, Bool, true, false, List, [], ◌∷◌, drop, refl}
+use Rattle.std.specs.Prelude.{Some, None, slice_get, if◌then◌else◌, ◌==◌, ◌&&◌}
 use Rattle.std.specs.List.{slice_index_or}
 use Rattle.text_scan.specs.declared.token.Token.{Token}
 use Rattle.text_scan.specs.declared.token.Kind.{Kind}

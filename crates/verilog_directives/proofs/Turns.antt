@@ -1,15 +1,15 @@
 -- The turns of tokens, and what is left after them.
-use Rattle.std.proofs.Common.{◌≡◌, ℕ, zero, suc, ◌+◌, ◌<◌, ◌≤◌, Bool, true, false, List, [], ◌∷◌, ◌++◌, length, drop, refl, sym, ap, subst, ◌∙◌, arith, length-drop, length-append}
+use Rattle.std.proofs.Common.{◌≡◌, ℕ, zero, suc, ◌+◌, ◌<◌, ◌≤◌, true, false, List, [], ◌∷◌, length, drop, refl, sym, ap, ◌∙◌, arith, length-drop, length-append}
 use Rattle.std.proofs.lemmas.List.{drop-drop}
-use Rattle.std.specs.Prelude.{Option, Some, None, if◌then◌else◌}
+use Rattle.std.specs.Prelude.{None}
 use Rattle.text_scan.specs.declared.token.Token.{Token}
 use Rattle.text_scan.specs.declared.limits.Limits.{Limits}
-use Rattle.text_scan.specs.Left.{is_end, IsSliceOf}
+use Rattle.text_scan.specs.Left.{is_end}
 use Rattle.verilog_directives.specs.declared.left.Left.{Left}
-use Rattle.verilog_directives.specs.declared.left.Role.TheVariants.{Macro, Plain}
+use Rattle.verilog_directives.specs.declared.left.Role.TheVariants.{Macro}
 use Rattle.verilog_directives.specs.declared.order.Order.{Order}
 use Rattle.verilog_directives.specs.declared.order.Order.TheVariants.{End, Pass, Show, PassLine, Define, Undefine, Open, Elsif, Else, Close}
-use Rattle.verilog_directives.specs.Left.{State, Turn, Ends, Shows, Goes, item, taken, left_from, is_last, followed}
+use Rattle.verilog_directives.specs.Left.{State, Goes, item, left_from, is_last, followed}
 use Rattle.verilog_directives.specs.Orders.{size, shown, state_after, turn_by, IsLawful}
 use Rattle.text_scan.specs.Left.{left}
 use Rattle.verilog_directives.specs.declared.lookahead.Lookahead.{Lookahead}

@@ -51,7 +51,7 @@ abbrev pub end_item : List Condition → Token → Left
 end_item [] t = item Plain t
 end_item (c ∷ cs) t = item Misplaced t
 
--- a directive's turn, where its text is read
+-- a turn where text is read; elsewhere nothing is left
 abbrev pub where_read : State → Turn → Turn
 where_read s turn = if is_read s.conditions then turn else Goes 0 s
 
@@ -104,7 +104,7 @@ unfoldable pub endif_turn : State → Token → List Condition → Turn
 endif_turn s mark [] = Ends (item Misplaced mark)
 endif_turn s mark (c ∷ cs) = Goes 1 (record s { conditions = cs })
 
--- a directive or macro that isn't obeyed, and the rest of its line
+-- a directive or macro that isn't obeyed; the rest of its line stands as it is
 abbrev pub macro_turn : State → Token → Turn
 macro_turn s mark = Shows (item Macro mark) (record s { line = Kept mark.span.line })
 

@@ -1,5 +1,5 @@
 -- What is to come of a text.
-use Rattle.std.specs.Prelude.{ℕ, List, ◌++◌}
+use Rattle.std.specs.Prelude.{List, ◌++◌}
 use Rattle.text_scan.specs.declared.token.Token.{Token}
 use Rattle.text_scan.specs.Left.{left}
 use Rattle.verilog_directives.specs.declared.lookahead.Lookahead.{Lookahead}

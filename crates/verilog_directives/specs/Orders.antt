@@ -1,5 +1,5 @@
 -- What a directive asks for, and what comes of it.
-use Rattle.std.specs.Prelude.{◌≡◌, ℕ, ◌<◌, ◌≤◌, true, List, [], ◌∷◌, length, drop, Option, None, Some}
+use Rattle.std.specs.Prelude.{◌≡◌, ℕ, ◌<◌, ◌≤◌, true, List, ◌∷◌, length, drop, Option, None, Some}
 use Rattle.std.specs.FinSet as set
 use Rattle.text_scan.specs.declared.token.Token.{Token}
 use Rattle.text_scan.specs.Left.{IsSliceOf}

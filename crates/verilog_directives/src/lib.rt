@@ -5,6 +5,7 @@ mod condition;
 mod conditions;
 mod directives;
 mod held;
+mod laws;
 mod left;
 mod line;
 mod lookahead;
@@ -17,6 +18,7 @@ mod signs;
 mod word;
 
 pub use directives::Directives;
+pub use laws::{one_branch_is_taken, tokens_without_directives_stay};
 pub use left::{Left, Role};
 pub use signs::name_in;
 pub use word::is_reserved;

@@ -115,8 +115,8 @@ fn is_enclosing_word(word: &[u8]) -> bool
         || word == b"initial".as_slice()
 }
 
-/// Whether the word is one of the grammar's own, which are no identifiers (IEEE 1364-2005, 3.7.2). Only the words
-/// that the grammar of cell models has are told; other keywords are refused where they stand.
+/// Whether the word is one of those that the grammar of cell models has of its own, which are no identifiers
+/// (IEEE 1364-2005, 3.7.2). The standard's other keywords count as identifiers here.
 #[tactic(auto, unfolding(crate::specs::Words::is_reserved))]
 pub fn is_reserved(word: &[u8]) -> bool
     ensures { result ≡ spec.is_reserved word.now }

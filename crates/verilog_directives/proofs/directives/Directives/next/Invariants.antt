@@ -1,5 +1,5 @@
 use Rattle.std.proofs.Common.{◌≡◌, length}
-use Rattle.verilog_directives.specs.Directives.{left, source}
+use Rattle.verilog_directives.specs.Directives.{left}
 use Rattle.verilog_directives.specs.Lookahead.{to_come}
 use Rattle.verilog_directives.proofs.directives.Directives.next.Given as goal
 

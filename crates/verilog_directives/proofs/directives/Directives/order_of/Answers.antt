@@ -1,8 +1,7 @@
-use Rattle.std.proofs.Common.{◌≡◌, ◌≤◌, ap, arith}
+use Rattle.std.proofs.Common.{◌≤◌, ap, arith}
 use Rattle.verilog_directives.specs.Conditions.{is_read}
 use Rattle.verilog_directives.specs.Directives as spec
-use Rattle.verilog_directives.specs.Left.{directive_turn, define_turn, undef_turn}
-use Rattle.verilog_directives.specs.Orders.{Asks}
+use Rattle.verilog_directives.specs.Left.{directive_turn}
 use Rattle.verilog_directives.proofs.Orders.{asks_where_read}
 use Rattle.verilog_directives.proofs.directives.Directives.order_of.Goals as goal
 

@@ -1,9 +1,8 @@
-use Rattle.std.proofs.Common.{◌≡◌, ◌<◌, true, false, length, sym, ap, subst, ◌∙◌}
+use Rattle.std.proofs.Common.{◌≡◌, ◌<◌, true, length, sym, ap, subst, ◌∙◌}
 use Rattle.std.specs.Prelude.{IfOk, IfSome, IfNone, OnErr}
-use Rattle.text_scan.specs.Left.{is_end, followed as followed_token}
 use Rattle.verilog_directives.specs.Lookahead.{to_come}
-use Rattle.verilog_directives.specs.Left.{left_from, is_last, followed}
-use Rattle.verilog_directives.specs.Directives.{left, state, before, left_by}
+use Rattle.verilog_directives.specs.Left.{left_from, is_last}
+use Rattle.verilog_directives.specs.Directives.{left, state, before}
 use Rattle.verilog_directives.proofs.NextTurn.{ends_here, shows_wrong, passes, keeps, directs_back, shows_read, passes_unread, fewer_to_come, back_again, left_again}
 use Rattle.verilog_directives.proofs.directives.Directives.turn.Goals as goal
 

@@ -1,4 +1,4 @@
-use Rattle.std.proofs.Common.{◌≡◌, ◌+◌, drop, ap, ◌∙◌}
+use Rattle.std.proofs.Common.{drop, ap, ◌∙◌}
 use Rattle.std.proofs.lemmas.List.{drop-drop}
 use Rattle.verilog_directives.specs.Held.{tokens}
 use Rattle.verilog_directives.proofs.held.Held.without.Goals as goal

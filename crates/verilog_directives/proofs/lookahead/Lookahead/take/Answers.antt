@@ -1,6 +1,5 @@
-use Rattle.std.proofs.Common.{◌≡◌, true, false, ◌∷◌, ◌++◌, drop, sym, ap, ◌∙◌}
+use Rattle.std.proofs.Common.{◌≡◌, true, false, ◌∷◌, ◌++◌, sym, ap, ◌∙◌}
 use Rattle.text_scan.specs.Left.{left, is_end}
-use Rattle.verilog_directives.specs.Held.{tokens}
 use Rattle.verilog_directives.specs.Lookahead.{to_come}
 use Rattle.verilog_directives.proofs.Looks.{held_first, held_inside, inside_no_end, inside_slice, followed-open}
 use Rattle.verilog_directives.proofs.lookahead.Lookahead.take.Goals as goal

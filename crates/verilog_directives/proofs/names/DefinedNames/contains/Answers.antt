@@ -1,4 +1,4 @@
-use Rattle.std.proofs.Common.{◌≡◌, sym, ap, ◌∙◌}
+use Rattle.std.proofs.Common.{sym, ap, ◌∙◌}
 use Rattle.std.specs.FinSet as set
 use Rattle.verilog_directives.proofs.NameSets.{contains-names_of}
 use Rattle.verilog_directives.proofs.names.DefinedNames.contains.Goals as goal

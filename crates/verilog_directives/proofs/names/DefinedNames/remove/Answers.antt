@@ -1,4 +1,4 @@
-use Rattle.std.proofs.Common.{◌≡◌, sym, ap, ◌∙◌}
+use Rattle.std.proofs.Common.{ap, ◌∙◌}
 use Rattle.std.specs.FinSet as set
 use Rattle.verilog_directives.proofs.NameSets.{names_of-remove}
 use Rattle.verilog_directives.proofs.names.DefinedNames.remove.Goals as goal
