@@ -1,9 +1,9 @@
 -- Each item of a module leads to what the grammar says.
-use Rattle.std.proofs.Common.{◌≡◌, ℕ, zero, suc, ◌+◌, ◌-◌, ◌≤◌, ◌<◌, leb, Bool, true, false, cond, ◌||◌, ◌&&◌, ◌==◌, List, [], ◌∷◌, Result, Ok, Err, refl, sym, ap, ◌∙◌, arith}
+use Rattle.std.proofs.Common.{◌≡◌, ℕ, zero, suc, ◌+◌, ◌-◌, ◌≤◌, ◌<◌, leb, Bool, true, false, ◌||◌, ◌==◌, List, ◌∷◌, Result, Ok, Err, refl, ap, ◌∙◌, arith}
 use Rattle.std.proofs.lemmas.Bool.{leb-true}
 use Rattle.text_scan.specs.declared.limits.Limits.{Limits}
 use Rattle.grammar.specs.Rule.{none, one, before, seq, alt, many}
-use Rattle.grammar.specs.Reading.{Stop, syntax, refusal, begins, acting, ◌>>=◌, read}
+use Rattle.grammar.specs.Reading.{syntax, refusal, begins, acting, ◌>>=◌, read}
 use Rattle.verilog_directives.specs.declared.left.Left.{Left}
 use Rattle.verilog_parts.specs.declared.halt.Refusal.{Refusal}
 use Rattle.verilog_parts.specs.declared.look.Look.{Look}
@@ -15,13 +15,13 @@ use Rattle.verilog_parts.specs.declared.module_phase.ModuleAction.{ModuleAction}
 use Rattle.verilog_parts.specs.declared.module_phase.ModuleAction.TheVariants as actions
 use Rattle.verilog_parts.specs.declared.module_phase.ModuleMove.{ModuleMove}
 use Rattle.verilog_parts.specs.declared.module_phase.ModuleMove.TheVariants as moves
-use Rattle.verilog_parts.specs.Looks.{look_of, is_name, is_number, is_comma, is_open, is_close, is_between, is_specified, is_macro, is_passed}
+use Rattle.verilog_parts.specs.Looks.{look_of, is_name, is_number, is_comma, is_open, is_close, is_between, is_specified}
 use Rattle.verilog_parts.specs.ModuleActions.{perform}
-use Rattle.verilog_parts.specs.ModuleGrammar.{ModuleRule, act, is_beside, is_off, port_name, net_port, port, further_ports, declared_name, further_names, names_end, names, declaration, closing, parentheses, between, delay_value, delay, last, terminal, further_terminals, terminals_end, terminals, connections, instance, further_instances, instances_end, instances, delayed, elements, beside_line, macro_line, specified, specify_end, specify, item, module_end, items, header_end, ports_end, listed, ports, module_body}
-use Rattle.verilog_parts.specs.ModuleMoves.{at_header, at_ports, at_port, at_port_net, at_port_name, at_port_end, at_header_end, at_items, at_name, at_name_end, at_kind, at_hash, at_delay, at_instance, at_labelled, naming, at_output, after_constant, at_terminal, at_terminal_end, at_last, at_instance_end, at_specify, beside, at_specify_line, closed, module_move}
+use Rattle.verilog_parts.specs.ModuleGrammar.{ModuleRule, act, is_beside, is_off, port_name, net_port, port, further_ports, declared_name, further_names, names_end, names, declaration, closing, parentheses, between, delay_value, delay, terminal, further_terminals, terminals_end, terminals, connections, instance, further_instances, instances_end, instances, delayed, elements, beside_line, macro_line, specified, specify_end, specify, item, module_end, items, header_end, ports_end, listed, ports, module_body}
+use Rattle.verilog_parts.specs.ModuleMoves.{at_header, at_ports, at_port, at_port_net, at_port_name, at_port_end, at_header_end, at_items, at_name, at_name_end, at_kind, at_hash, at_delay, at_instance, at_labelled, naming, at_output, at_terminal, at_terminal_end, at_last, at_instance_end, at_specify, beside, at_specify_line, closed, module_move}
 use Rattle.verilog_parts.specs.ModuleBounds.{IsOpen}
-use Rattle.verilog_parts.specs.ModuleToCome.{around, rest_of_delay, in_items, in_instances, to_come, Reading}
-use Rattle.verilog_parts.proofs.Binds.{bind1, bind2, bind3, bind4, bind6}
+use Rattle.verilog_parts.specs.ModuleToCome.{around, rest_of_delay, to_come, Reading}
+use Rattle.verilog_parts.proofs.Binds.{bind2, bind3, bind4, bind6}
 use Rattle.verilog_parts.proofs.Repeats.{turns, ends}
 use Rattle.verilog_parts.proofs.ModuleSimple.{further_port, further_name, further_terminal, further_instance, beside_one, specified_one, item_simple, between_simple, parentheses_are}
 
@@ -354,7 +354,7 @@ module _ (source : List ℕ) (limits : Limits) (n : ℕ) where
       let room : n - suc depth ≡ suc (n - suc (suc depth)) = omega arith in
       let g : leb (suc (suc depth)) 1 ≡ false = more_than_one depth in
       rw (e, kept t s, g, f, room) (ap (delay_ended o) (around_same depth (suc (n - suc (suc depth))) (seq (seq (inside (n - suc (suc depth))) (many (between source limits (suc (n - suc (suc depth)))))) (closing source limits)) (inside (suc (n - suc (suc depth)))) s (t ∷ ts) ts
-        (ap (λ q. (q >>= on (many (between source limits (suc (n - suc (suc depth)))))) >>= on (closing source limits)) (closes (n - suc (suc depth)) s t ts h))))
+      (ap (λ q. (q >>= on (many (between source limits (suc (n - suc (suc depth)))))) >>= on (closing source limits)) (closes (n - suc (suc depth)) s t ts h))))
 
   delay_ok : (o : Bool) (depth : ℕ) (l : Look) → 1 ≤ depth → depth < n → Follows (phases.Delay o depth) (at_delay o depth l) l
   delay_ok o depth looks.Open d r s t ts h = in_delay_opens o depth (n - depth - 1) d (omega arith) s t ts h

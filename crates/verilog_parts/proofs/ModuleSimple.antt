@@ -1,7 +1,7 @@
 -- One item of look-ahead is enough to read a module.
-use Rattle.std.proofs.Common.{◌≡◌, ℕ, zero, suc, Bool, true, false, ◌||◌, ◌&&◌, ◌==◌, List, refl, sym, ◌∙◌, if◌then◌else◌}
+use Rattle.std.proofs.Common.{◌≡◌, ℕ, zero, suc, Bool, true, false, ◌||◌, ◌&&◌, ◌==◌, List, refl, ◌∙◌, if◌then◌else◌}
 use Rattle.text_scan.specs.declared.limits.Limits.{Limits}
-use Rattle.grammar.specs.Rule.{none, before, seq, alt, many, one}
+use Rattle.grammar.specs.Rule.{none, seq, alt, many, one}
 use Rattle.grammar.specs.Reading.{nullable, short, begins, IsSimple}
 use Rattle.verilog_directives.specs.declared.left.Left.{Left}
 use Rattle.verilog_parts.specs.declared.look.Look.{Look}
@@ -10,7 +10,7 @@ use Rattle.verilog_parts.specs.declared.module_phase.ModuleAction.{ModuleAction}
 use Rattle.verilog_parts.specs.declared.module_phase.ModuleAction.TheVariants as actions
 use Rattle.verilog_parts.specs.Looks.{look_of, is_name, is_gate, is_buffer, is_end_module, is_direction, is_net, is_declaration, is_specify, is_end_specify, is_constant, is_number, is_open, is_close, is_comma, is_semicolon, is_hash, is_macro, is_end, is_passed, is_between, is_specified}
 use Rattle.verilog_parts.specs.ModuleActions.{perform}
-use Rattle.verilog_parts.specs.ModuleGrammar.{ModuleRule, act, is_beside, is_off, port_name, net_port, port, further_ports, declared_name, further_names, names_end, names, declaration, closing, parentheses, between, delay_value, delay, last, terminal, further_terminals, terminals_end, terminals, connections, instance, further_instances, instances_end, instances, delayed, elements, beside_line, macro_line, specified, specify_end, specify, item, module_end, items, header_end, ports_end, listed, ports, module_body}
+use Rattle.verilog_parts.specs.ModuleGrammar.{ModuleRule, act, is_beside, port_name, net_port, port, further_ports, declared_name, further_names, names_end, names, declaration, closing, parentheses, delay_value, delay, last, terminal, further_terminals, terminals_end, terminals, connections, instance, further_instances, instances_end, instances, delayed, elements, beside_line, macro_line, specified, specify_end, specify, item, module_end, items, header_end, ports_end, listed, ports, module_body}
 
 module _ (source : List ℕ) (limits : Limits) where
   -- no item that looks so is in next

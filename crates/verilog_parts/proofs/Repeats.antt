@@ -1,7 +1,7 @@
 -- Repetitions, one turn further.
-use Rattle.std.proofs.Common.{◌≡◌, Bool, true, false, List, [], ◌∷◌, Result, Ok, Err, refl, ap, ◌∙◌}
-use Rattle.grammar.specs.Rule.{Rule, many, one}
-use Rattle.grammar.specs.Reading.{Stop, syntax, refusal, short, begins, acting, ◌>>=◌, read, IsSimple}
+use Rattle.std.proofs.Common.{◌≡◌, Bool, true, false, List, ◌∷◌, Result, Ok, Err, refl}
+use Rattle.grammar.specs.Rule.{Rule, many}
+use Rattle.grammar.specs.Reading.{Stop, refusal, short, begins, acting, ◌>>=◌, read, IsSimple}
 use Rattle.grammar.proofs.Stops.{many_turn, many_end}
 
 -- an item of the repetition begins here

@@ -1,8 +1,8 @@
 -- Each item of a primitive leads to what the grammar says.
-use Rattle.std.proofs.Common.{◌≡◌, ℕ, Bool, true, false, cond, ◌||◌, ◌&&◌, List, [], ◌∷◌, Result, Ok, Err, refl, sym, ap, ◌∙◌}
+use Rattle.std.proofs.Common.{◌≡◌, ℕ, Bool, true, false, ◌||◌, List, ◌∷◌, Result, Ok, Err, refl, ap, ◌∙◌}
 use Rattle.text_scan.specs.declared.limits.Limits.{Limits}
-use Rattle.grammar.specs.Rule.{none, one, seq, alt, many}
-use Rattle.grammar.specs.Reading.{Stop, syntax, refusal, begins, acting, ◌>>=◌, read}
+use Rattle.grammar.specs.Rule.{none, one, many}
+use Rattle.grammar.specs.Reading.{syntax, refusal, begins, acting, ◌>>=◌, read}
 use Rattle.verilog_directives.specs.declared.left.Left.{Left}
 use Rattle.verilog_parts.specs.declared.halt.Refusal.{Refusal}
 use Rattle.verilog_parts.specs.declared.look.Look.{Look}
@@ -14,13 +14,13 @@ use Rattle.verilog_parts.specs.declared.udp_phase.UdpAction.{UdpAction}
 use Rattle.verilog_parts.specs.declared.udp_phase.UdpAction.TheVariants as actions
 use Rattle.verilog_parts.specs.declared.udp_phase.UdpMove.{UdpMove}
 use Rattle.verilog_parts.specs.declared.udp_phase.UdpMove.TheVariants as moves
-use Rattle.verilog_parts.specs.Looks.{text, look_of, is_comma, is_stated, is_semicolon, is_end_table, is_symbolic, has_symbols, are_symbols}
+use Rattle.verilog_parts.specs.Looks.{look_of, is_comma, is_stated, is_semicolon, are_symbols}
 use Rattle.verilog_parts.specs.UdpActions.{perform_udp}
 use Rattle.verilog_parts.specs.UdpGrammar.{UdpRule, act, udp_port_name, output_port, udp_port, further_udp_ports, udp_name, further_udp_names, udp_names_end, udp_names, udp_declaration, symbols, row_end, row, udp_end, table_end, rows, table, stated, statement_end, statement, after_declarations, declarations, udp_header_end, udp_ports_end, udp_ports, udp_body}
 use Rattle.verilog_parts.specs.UdpMoves.{at_header, at_port, at_output_port, at_port_name, at_port_end, at_header_end, at_table_word, at_declarations, at_name, at_name_end, at_initial, at_row, at_rows, at_table_end, udp_move}
 use Rattle.verilog_parts.specs.UdpToCome.{to_come, Reading}
 use Rattle.verilog_parts.specs.UdpBounds.{IsOpen}
-use Rattle.verilog_parts.proofs.Binds.{bind1, bind2, bind3, bind4}
+use Rattle.verilog_parts.proofs.Binds.{bind2, bind4}
 use Rattle.verilog_parts.proofs.Repeats.{turns, ends}
 use Rattle.verilog_parts.proofs.UdpSimple.{further_port, further_name, declaration_simple, symbols_one, row_simple, stated_one}
 

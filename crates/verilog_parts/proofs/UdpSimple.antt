@@ -1,14 +1,13 @@
 -- One item of look-ahead is enough to read a primitive.
 use Rattle.std.proofs.Common.{◌≡◌, ℕ, Bool, true, false, ◌||◌, ◌&&◌, List, refl}
 use Rattle.text_scan.specs.declared.limits.Limits.{Limits}
-use Rattle.grammar.specs.Rule.{none, one, seq, alt, many}
-use Rattle.grammar.specs.Reading.{nullable, short, begins, IsSimple}
+use Rattle.grammar.specs.Rule.{none, one, many}
+use Rattle.grammar.specs.Reading.{IsSimple}
 use Rattle.verilog_directives.specs.declared.left.Left.{Left}
 use Rattle.verilog_parts.specs.declared.look.Look.{Look}
 use Rattle.verilog_parts.specs.declared.look.Look.TheVariants as looks
-use Rattle.verilog_parts.specs.declared.udp_phase.UdpAction.{UdpAction}
 use Rattle.verilog_parts.specs.declared.udp_phase.UdpAction.TheVariants as actions
-use Rattle.verilog_parts.specs.Looks.{text, look_of, is_name, is_reg, is_output, is_input, is_udp_declaration, is_initial, is_table, is_end_table, is_comma, is_semicolon, is_close, is_stated, is_symbolic, has_symbols, are_symbols}
+use Rattle.verilog_parts.specs.Looks.{text, look_of, is_name, is_reg, is_output, is_input, is_udp_declaration, is_initial, is_table, is_end_table, is_comma, is_semicolon, is_stated, is_symbolic, has_symbols, are_symbols}
 use Rattle.verilog_parts.specs.UdpActions.{perform_udp}
 use Rattle.verilog_parts.specs.UdpGrammar.{UdpRule, act, udp_port_name, output_port, udp_port, further_udp_ports, udp_name, further_udp_names, udp_names_end, udp_names, udp_declaration, symbols, row_end, row, udp_end, table_end, rows, table, stated, statement_end, statement, after_declarations, declarations, udp_header_end, udp_ports_end, udp_ports, udp_body}
 

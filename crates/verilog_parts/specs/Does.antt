@@ -1,5 +1,5 @@
 -- What the parts of a reader answer, unless memory runs out.
-use Rattle.std.specs.Prelude.{◌≡◌, ℕ, [], Result, Ok, Err}
+use Rattle.std.specs.Prelude.{◌≡◌, Result, Ok, Err}
 use Rattle.verilog_parts.specs.declared.halt.Refusal.{Refusal}
 use Rattle.verilog_parts.specs.declared.halt.Halt.{Halt}
 use Rattle.verilog_parts.specs.declared.halt.Halt.TheVariants as halts

@@ -1,5 +1,5 @@
 -- What the items of a module leave.
-use Rattle.std.specs.Prelude.{ℕ, Bool, true, false, if◌then◌else◌, List, [], ◌∷◌, ◌++◌, Option, Some, None, Result, Ok, Err}
+use Rattle.std.specs.Prelude.{ℕ, if◌then◌else◌, List, [], ◌∷◌, ◌++◌, Option, Some, None, Result, Ok, Err}
 use Rattle.text_scan.specs.declared.pins.Direction.{Direction}
 use Rattle.text_scan.specs.declared.pins.Direction.TheVariants as directions
 use Rattle.text_scan.specs.declared.limits.Limits.{Limits}

@@ -1,14 +1,13 @@
 -- What is still to come where a reader of a module stands, as a rule.
-use Rattle.std.specs.Prelude.{ℕ, zero, suc, ◌+◌, ◌-◌, ◌<◌, Bool, true, false, List, Result}
+use Rattle.std.specs.Prelude.{ℕ, zero, suc, ◌-◌, Bool, List, Result}
 use Rattle.text_scan.specs.declared.limits.Limits.{Limits}
-use Rattle.grammar.specs.Rule.{Rule, none, before, seq, many}
+use Rattle.grammar.specs.Rule.{none, before, seq, many}
 use Rattle.grammar.specs.Reading.{Stop, read}
 use Rattle.verilog_directives.specs.declared.left.Left.{Left}
 use Rattle.verilog_parts.specs.declared.halt.Refusal.{Refusal}
 use Rattle.verilog_parts.specs.declared.module_text.ModuleText.{ModuleText}
 use Rattle.verilog_parts.specs.declared.module_phase.ModulePhase.{ModulePhase}
 use Rattle.verilog_parts.specs.declared.module_phase.ModulePhase.TheVariants as phases
-use Rattle.verilog_parts.specs.declared.module_phase.ModuleAction.{ModuleAction}
 use Rattle.verilog_parts.specs.declared.module_phase.ModuleAction.TheVariants as actions
 use Rattle.verilog_parts.specs.declared.module_reader.ModuleReader.{ModuleReader}
 use Rattle.verilog_parts.specs.Looks as looks

@@ -1,5 +1,5 @@
 -- The ports of a module, in the order of its port list.
-use Rattle.std.specs.Prelude.{◌≡◌, ℕ, zero, suc, Bool, true, false, if◌then◌else◌, List, [], ◌∷◌, map, Option, Some, None, slice_get, slice_set}
+use Rattle.std.specs.Prelude.{ℕ, Bool, true, false, if◌then◌else◌, List, [], ◌∷◌, map, Option, Some, None, slice_get, slice_set}
 use Rattle.text_scan.specs.declared.pins.Direction.{Direction}
 use Rattle.text_scan.specs.declared.pins.Direction.TheVariants as directions
 use Rattle.verilog_source.specs.declared.module.Port.{Port}

@@ -1,5 +1,5 @@
 -- What the items of a primitive leave.
-use Rattle.std.specs.Prelude.{ℕ, Bool, true, false, ◌==◌, if◌then◌else◌, List, [], ◌∷◌, ◌++◌, Option, Some, None, Result, Ok, Err}
+use Rattle.std.specs.Prelude.{ℕ, true, false, ◌==◌, if◌then◌else◌, List, [], ◌∷◌, ◌++◌, Option, Some, None, Result, Ok, Err}
 use Rattle.text_scan.specs.declared.limits.Limits.{Limits}
 use Rattle.name_index.specs.Places.{is_known, place_of}
 use Rattle.verilog_directives.specs.declared.left.Left.{Left}

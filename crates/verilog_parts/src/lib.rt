@@ -27,4 +27,4 @@ pub use ports::Ports;
 pub use row::Row;
 pub use udp_phase::{UdpAction, UdpMove, UdpPhase};
 pub use udp_reader::UdpReader;
-pub use udp_text::{UdpDeclared, PrimitiveText};
+pub use udp_text::{PrimitiveText, UdpDeclared};

@@ -36,13 +36,7 @@ fn unescaped(word: &[u8]) -> &[u8]
 {
     match word {
         [] => word,
-        [byte, rest @ ..] => {
-            if *byte == b'\\' {
-                rest
-            } else {
-                word
-            }
-        }
+        [byte, rest @ ..] => { if *byte == b'\\' { rest } else { word } }
     }
 }
 

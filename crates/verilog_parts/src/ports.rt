@@ -49,12 +49,7 @@ impl Ports {
 
     /// Puts a port behind the others. After a refusal the ports are as they were.
     #[tactic(auto, using(crate::proofs::PortLists::one_more_name))]
-    pub fn push(
-        &mut self,
-        alloc: Global,
-        name: &[u8],
-        direction: Direction,
-    ) -> Result<(), NoMemory>
+    pub fn push(&mut self, alloc: Global, name: &[u8], direction: Direction) -> Result<(), NoMemory>
         ensures ok { OnOk result (self.new ≡ self.old ++ record { name = name.now; direction = direction } ∷ []) }
     {
         let text = Text::from_bytes(alloc, name)?;

@@ -9,7 +9,7 @@ use crate::look::{Look, look_of};
 use crate::names::{content, is_name, is_too_long, text};
 use crate::row::Row;
 use crate::udp_phase::UdpAction;
-use crate::udp_text::{UdpDeclared, PrimitiveText};
+use crate::udp_text::{PrimitiveText, UdpDeclared};
 use name_index::Names;
 use std::alloc::Global;
 use text_scan::{Items, LimitKind, Limits};
@@ -118,12 +118,7 @@ impl PrimitiveText {
 
     // What is said of a name: the first port is the output, the others are inputs.
     #[tactic(auto, unfolding(crate::specs::UdpActions::declare_udp))]
-    fn declare(
-        &mut self,
-        alloc: Global,
-        declared: UdpDeclared,
-        name: &[u8],
-    ) -> Result<(), Halt>
+    fn declare(&mut self, alloc: Global, declared: UdpDeclared, name: &[u8]) -> Result<(), Halt>
         ensures { Does result self.new (spec.declare_udp declared name.now self.old) }
     {
         match self.ports.place_of(name) {

@@ -54,13 +54,7 @@ fn is_symbolic(look: Look) -> bool
 {
     matches!(
         look,
-        Look::Name
-            | Look::Zero
-            | Look::One
-            | Look::Number
-            | Look::Open
-            | Look::Close
-            | Look::Other
+        Look::Name | Look::Zero | Look::One | Look::Number | Look::Open | Look::Close | Look::Other
     )
 }
 

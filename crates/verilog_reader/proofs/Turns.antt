@@ -108,12 +108,16 @@ module _ (source : List ℕ) (limits : Limits) (n : ℕ) where
   opened_turn (phases.Line line) g ts h = ((λ r f. f), h)
   opened_turn phases.ModuleWord g ts h = ((λ r f. f), tt)
   opened_turn phases.PrimitiveWord g ts h = ((λ r f. f), tt)
-  opened_turn phases.Module g ts h =
-      ((λ r f. let P : Opened → Type 0 = λ o. Opens source limits n (Some source limits n) o g ts r in
-        subst P (sym h) (read (module_body source limits n) no_module ts, first_answers (module_body source limits n) (module_simple source limits n) no_module ts, f)), refl)
-  opened_turn phases.Primitive g ts h =
-      ((λ r f. let P : Opened → Type 0 = λ o. Opens source limits n (Some source limits n) o g ts r in
-        subst P (sym h) (read (udp_body source limits) no_udp ts, first_answers (udp_body source limits) (udp_simple source limits) no_udp ts, f)), refl)
+  opened_turn phases.Module g ts h = (
+    (λ r f. let P : Opened → Type 0 = λ o. Opens source limits n (Some source limits n) o g ts r in
+        subst P (sym h) (read (module_body source limits n) no_module ts, first_answers (module_body source limits n) (module_simple source limits n) no_module ts, f)),
+    refl,
+  )
+  opened_turn phases.Primitive g ts h = (
+    (λ r f. let P : Opened → Type 0 = λ o. Opens source limits n (Some source limits n) o g ts r in
+        subst P (sym h) (read (udp_body source limits) no_udp ts, first_answers (udp_body source limits) (udp_simple source limits) no_udp ts, f)),
+    refl,
+  )
   opened_turn phases.Rest g ts h = absurd h
   opened_turn phases.Done g ts h = ((λ r f. let P : Opened → Type 0 = λ o. Opens source limits n (Some source limits n) o g ts r in subst P (sym h) f), tt)
 
@@ -176,8 +180,8 @@ module _ (source : List ℕ) (limits : Limits) (n : ℕ) where
   ended_turn line l m t ts h o b f =
       along (outside_step source limits t m (at_top t.token.span.line l)) (read (line_rest source limits line) m.text (t ∷ ts)) (Ok (m.text, t ∷ ts)) ts (line_ended source limits line m.text t ts b f)
       (turned_map (outside_step source limits t m (at_top t.token.span.line l)) (After (read (outside source limits) m.text (t ∷ ts))) (After (Ok (m.text, t ∷ ts))) ts
-        (λ r g. let P : Opened → Type 0 = λ z. Opens source limits n (Some source limits n) z m.text (t ∷ ts) r in subst P (sym o) (one_more source limits n m.text (t ∷ ts) r g))
-        (top_turn l m t ts h))
+      (λ r g. let P : Opened → Type 0 = λ z. Opens source limits n (Some source limits n) z m.text (t ∷ ts) r in subst P (sym o) (one_more source limits n m.text (t ∷ ts) r g))
+      (top_turn l m t ts h))
 
   -- an item on the line
   beside_turn : (line : ℕ) (m : FileReader) (t : Left) (ts : List Left) → (t.token.span.line == line) ≡ true → m.text.opened ≡ openings.Line → is_passed (look_of source t) ≡ true

@@ -113,8 +113,10 @@ impl FileReader {
     fn end_module(&mut self, alloc: Global) -> Result<(), FileRefusal>
         ensures { Steps result self.new (spec.ended_module self.old) }
     {
-        let ModuleReader { phase: _, text } =
-            mem::replace(&mut self.module_reader, ModuleReader::new(alloc));
+        let ModuleReader { phase: _, text } = mem::replace(
+            &mut self.module_reader,
+            ModuleReader::new(alloc),
+        );
         self.text.add_module(alloc, text)?;
         self.phase = FilePhase::Top;
         Ok(())
@@ -211,8 +213,10 @@ impl FileReader {
     fn end_udp(&mut self, alloc: Global) -> Result<(), FileRefusal>
         ensures { Steps result self.new (spec.ended_udp self.old) }
     {
-        let UdpReader { phase: _, text } =
-            mem::replace(&mut self.udp_reader, UdpReader::new(alloc));
+        let UdpReader { phase: _, text } = mem::replace(
+            &mut self.udp_reader,
+            UdpReader::new(alloc),
+        );
         self.text.add_udp(alloc, text)?;
         self.phase = FilePhase::Top;
         Ok(())

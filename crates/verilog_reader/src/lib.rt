@@ -11,11 +11,8 @@ mod parts;
 mod public_call;
 mod reading;
 mod refusals;
-
 #[cfg(test)]
 mod tests;
 
 pub use public_call::read_source;
-pub use verilog_source::{
-    Element, Module, ModulePart, Port, Source, Terminal, UdpPart, UdpText,
-};
+pub use verilog_source::{Element, Module, ModulePart, Port, Source, Terminal, UdpPart, UdpText};

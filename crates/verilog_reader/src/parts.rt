@@ -106,12 +106,7 @@ impl FileText {
     }
 
     #[tactic(auto, unfolding(crate::specs::FileActions::refused_udp))]
-    pub fn refuse_udp(
-        &mut self,
-        alloc: Global,
-        construct: Text,
-        line: u32,
-    ) -> Result<(), NoMemory>
+    pub fn refuse_udp(&mut self, alloc: Global, construct: Text, line: u32) -> Result<(), NoMemory>
         ensures { OnOk result (self.new ≡ spec.refused_udp self.old construct line) }
     {
         let name = self.take_name(alloc);

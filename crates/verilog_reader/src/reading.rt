@@ -23,11 +23,7 @@ impl FileReader {
 }
 
 /// The parts of a text.
-pub fn read_file(
-    alloc: Global,
-    source: &[u8],
-    limits: &Limits,
-) -> Result<FileText, FileRefusal>
+pub fn read_file(alloc: Global, source: &[u8], limits: &Limits) -> Result<FileText, FileRefusal>
     ensures { IsRead source.now limits.now result }
 {
     let mut reader = FileReader::new(alloc);

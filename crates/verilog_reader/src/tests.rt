@@ -180,13 +180,16 @@ fn an_inverter_is_read(rt: HostRuntime) -> Result<(), Fail> {
 #[test]
 fn a_cell_model_of_a_library_is_read(rt: HostRuntime) {
     let alloc = rt.alloc();
-    let nand = b"`timescale 1ns/1ps\n`celldefine\nmodule ND2(A,B,Y);input A,B;output Y;nand(Y,A,B);\nspecify\n  (A => Y) = (1.0, 1.0);\n  `MACRO endspecify endmodule\nendspecify\nendmodule\n`endcelldefine\n";
+    let nand =
+        b"`timescale 1ns/1ps\n`celldefine\nmodule ND2(A,B,Y);input A,B;output Y;nand(Y,A,B);\nspecify\n  (A => Y) = (1.0, 1.0);\n  `MACRO endspecify endmodule\nendspecify\nendmodule\n`endcelldefine\n";
     assert_eq!(rt; sizes(alloc, nand), Some((3, 0, 1)));
-    let multiplexer = b"module MX(D0,D1,S,Y);input D0,D1,S;output Y;not(n,S);and(a,D0,n);and(b,D1,S);or(Y,a,b);endmodule";
+    let multiplexer =
+        b"module MX(D0,D1,S,Y);input D0,D1,S;output Y;not(n,S);and(a,D0,n);and(b,D1,S);or(Y,a,b);endmodule";
     assert_eq!(rt; sizes(alloc, multiplexer), Some((4, 0, 4)));
     assert_eq!(rt; sizes(alloc, b"module M;endmodule"), Some((0, 0, 0)));
     assert_eq!(rt; sizes(alloc, b"module M();endmodule"), Some((0, 0, 0)));
-    let listed = b"module M(a, input wire b, c, output reg y, inout z);inout a;supply0 gnd;supply1 vdd, top;wire w;not #(1,(2)) g1(y,b),(z,c);lat #1.5 \\l+1 (w,1'b0,a);lat #d(w,1'B1,1'b1);and #1 (y,a);buf(x,y,1'b1);endmodule";
+    let listed =
+        b"module M(a, input wire b, c, output reg y, inout z);inout a;supply0 gnd;supply1 vdd, top;wire w;not #(1,(2)) g1(y,b),(z,c);lat #1.5 \\l+1 (w,1'b0,a);lat #d(w,1'B1,1'b1);and #1 (y,a);buf(x,y,1'b1);endmodule";
     assert_eq!(rt; sizes(alloc, listed), Some((5, 3, 6)));
 }
 
@@ -212,24 +215,63 @@ fn instances_have_labels_and_constants(rt: HostRuntime) -> Result<(), Fail> {
 #[test]
 fn primitives_are_read(rt: HostRuntime) {
     let alloc = rt.alloc();
-    let flop = b"primitive u(q,d,ck);output q;reg q;input d,ck;\ntable\n0 r : ? : 0 ;\n1 r : ? : 1 ;\n? f : ? : - ;\n* ? : ? : - ;\nendtable endprimitive\nmodule DFF(D,CK,Q);input D,CK;output Q;u(Q,D,CK);endmodule\n";
+    let flop =
+        b"primitive u(q,d,ck);output q;reg q;input d,ck;\ntable\n0 r : ? : 0 ;\n1 r : ? : 1 ;\n? f : ? : - ;\n* ? : ? : - ;\nendtable endprimitive\nmodule DFF(D,CK,Q);input D,CK;output Q;u(Q,D,CK);endmodule\n";
     assert!(rt; has_udp(alloc, flop, true, 2, 4));
     assert!(rt; has_row(alloc, flop, 3, b"*?:?:-"));
     assert_eq!(rt; sizes(alloc, flop), Some((3, 0, 1)));
-    let listed = b"primitive u(output reg q, input d, g); initial q = 1'b0; table (0 1) /* up */ 0:?:0; ; endtable endprimitive";
+    let listed =
+        b"primitive u(output reg q, input d, g); initial q = 1'b0; table (0 1) /* up */ 0:?:0; ; endtable endprimitive";
     assert!(rt; has_udp(alloc, listed, true, 2, 2));
     assert!(rt; has_row(alloc, listed, 0, b"(01)0:?:0"));
     assert!(rt; has_row(alloc, listed, 1, b""));
-    assert!(rt; has_udp(alloc, b"primitive u(q,a);table endtable endprimitive", false, 1, 0));
-    assert!(rt; has_udp(alloc, b"primitive u(q,a,b);input b;output q;input a;table 01:1;endtable endprimitive", false, 2, 1));
+    assert!(rt;
+        has_udp(
+            alloc,
+            b"primitive u(q,a);table endtable endprimitive",
+            false,
+            1,
+            0
+        )
+    );
+    assert!(rt;
+        has_udp(
+            alloc,
+            b"primitive u(q,a,b);input b;output q;input a;table 01:1;endtable endprimitive",
+            false,
+            2,
+            1
+        )
+    );
 }
 
 #[test]
 fn a_module_is_refused_at_its_first_item_out_of_place(rt: HostRuntime) {
     let alloc = rt.alloc();
-    assert!(rt; refuses(alloc, b"module M(a,y);input a;output y;\nassign y = a;\nendmodule", b"=", 2));
-    assert!(rt; refuses(alloc, b"module M(a,y);input a;output y;not(y,\n1'b0,a);endmodule", b",", 2));
-    assert!(rt; refuses(alloc, b"module M(a,y);input a;output y;and(1'b0,a);endmodule", b"1'b0", 1));
+    assert!(rt;
+        refuses(
+            alloc,
+            b"module M(a,y);input a;output y;\nassign y = a;\nendmodule",
+            b"=",
+            2
+        )
+    );
+    assert!(rt;
+        refuses(
+            alloc,
+            b"module M(a,y);input a;output y;not(y,\n1'b0,a);endmodule",
+            b",",
+            2
+        )
+    );
+    assert!(rt;
+        refuses(
+            alloc,
+            b"module M(a,y);input a;output y;and(1'b0,a);endmodule",
+            b"1'b0",
+            1
+        )
+    );
     assert!(rt; refuses(alloc, b"module M(a);input wire a;endmodule", b"wire", 1));
     assert!(rt; refuses(alloc, b"module M(q);output reg q;endmodule", b"reg", 1));
     assert!(rt; refuses(alloc, b"module M(a,b);input b;\n\nendmodule", b"a", 3));
@@ -247,7 +289,8 @@ fn a_module_is_refused_at_its_first_item_out_of_place(rt: HostRuntime) {
 #[test]
 fn a_file_goes_on_after_the_first_end(rt: HostRuntime) -> Result<(), Fail> {
     let alloc = rt.alloc();
-    let text = b"module A;always x; endprimitive module B;endmodule\n`MACRO module endmodule\nprimitive u(q);table q;endtable endmodule primitive v(q);table endtable endprimitive `M";
+    let text =
+        b"module A;always x; endprimitive module B;endmodule\n`MACRO module endmodule\nprimitive u(q);table q;endtable endmodule primitive v(q);table endtable endprimitive `M";
     let source = read(alloc, text)?;
     assert_eq!(rt; source.modules.len(), 2);
     assert_eq!(rt; source.primitives.len(), 2);
@@ -261,14 +304,70 @@ fn a_file_goes_on_after_the_first_end(rt: HostRuntime) -> Result<(), Fail> {
 fn a_primitive_is_refused_at_its_first_item_out_of_place(rt: HostRuntime) {
     let alloc = rt.alloc();
     assert!(rt; refuses_udp(alloc, b"primitive u();endprimitive", b")", 1));
-    assert!(rt; refuses_udp(alloc, b"primitive u(q,a);output a;table endtable endprimitive", b"a", 1));
-    assert!(rt; refuses_udp(alloc, b"primitive u(q,a);input q;table endtable endprimitive", b"q", 1));
-    assert!(rt; refuses_udp(alloc, b"primitive u(q,a);input a;\ninput a;table endtable endprimitive", b"a", 2));
-    assert!(rt; refuses_udp(alloc, b"primitive u(q,a);reg q;\nreg q;table endtable endprimitive", b"q", 2));
-    assert!(rt; refuses_udp(alloc, b"primitive u(output q, a);table endtable endprimitive", b"a", 1));
-    assert!(rt; refuses_udp(alloc, b"primitive u(q,a);table 012:1;endtable endprimitive", b"012", 1));
-    assert!(rt; refuses_udp(alloc, b"primitive u(q,a);table 0:1 endtable endprimitive", b"endtable", 1));
-    assert!(rt; refuses_udp(alloc, b"primitive u(q,a);initial q=0; output q;table endtable endprimitive", b"output", 1));
+    assert!(rt;
+        refuses_udp(
+            alloc,
+            b"primitive u(q,a);output a;table endtable endprimitive",
+            b"a",
+            1
+        )
+    );
+    assert!(rt;
+        refuses_udp(
+            alloc,
+            b"primitive u(q,a);input q;table endtable endprimitive",
+            b"q",
+            1
+        )
+    );
+    assert!(rt;
+        refuses_udp(
+            alloc,
+            b"primitive u(q,a);input a;\ninput a;table endtable endprimitive",
+            b"a",
+            2
+        )
+    );
+    assert!(rt;
+        refuses_udp(
+            alloc,
+            b"primitive u(q,a);reg q;\nreg q;table endtable endprimitive",
+            b"q",
+            2
+        )
+    );
+    assert!(rt;
+        refuses_udp(
+            alloc,
+            b"primitive u(output q, a);table endtable endprimitive",
+            b"a",
+            1
+        )
+    );
+    assert!(rt;
+        refuses_udp(
+            alloc,
+            b"primitive u(q,a);table 012:1;endtable endprimitive",
+            b"012",
+            1
+        )
+    );
+    assert!(rt;
+        refuses_udp(
+            alloc,
+            b"primitive u(q,a);table 0:1 endtable endprimitive",
+            b"endtable",
+            1
+        )
+    );
+    assert!(rt;
+        refuses_udp(
+            alloc,
+            b"primitive u(q,a);initial q=0; output q;table endtable endprimitive",
+            b"output",
+            1
+        )
+    );
 }
 
 #[test]
@@ -292,8 +391,16 @@ fn the_first_token_out_of_place_is_told(rt: HostRuntime) {
 fn limits_and_double_names_are_told(rt: HostRuntime) -> Result<(), Fail> {
     let alloc = rt.alloc();
     assert!(rt; is_double(alloc, b"module M(a,\na);endmodule", b"a", 2));
-    assert!(rt; is_double(alloc, b"module M;foo bar baz;endmodule\nprimitive \\M (q);", b"M", 2));
-    let deep = b"`ifdef a `ifdef a `ifdef a `ifdef a `ifdef a `ifdef a `ifdef a `ifdef a `ifdef a `ifdef a `ifdef a `ifdef a `ifdef a `ifdef a `ifdef a `ifdef a `ifdef a `ifdef a `ifdef a `ifdef a `ifdef a `ifdef a `ifdef a `ifdef a `ifdef a `ifdef a `ifdef a `ifdef a `ifdef a `ifdef a `ifdef a `ifdef a `ifdef a ";
+    assert!(rt;
+        is_double(
+            alloc,
+            b"module M;foo bar baz;endmodule\nprimitive \\M (q);",
+            b"M",
+            2
+        )
+    );
+    let deep =
+        b"`ifdef a `ifdef a `ifdef a `ifdef a `ifdef a `ifdef a `ifdef a `ifdef a `ifdef a `ifdef a `ifdef a `ifdef a `ifdef a `ifdef a `ifdef a `ifdef a `ifdef a `ifdef a `ifdef a `ifdef a `ifdef a `ifdef a `ifdef a `ifdef a `ifdef a `ifdef a `ifdef a `ifdef a `ifdef a `ifdef a `ifdef a `ifdef a `ifdef a ";
     assert!(rt; is_too_many(alloc, deep, LimitKind::Nesting, 32));
     let mut long = Vec::new(alloc);
     long.extend_from_slice(b"module ")?;

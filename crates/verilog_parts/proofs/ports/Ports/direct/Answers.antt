@@ -1,4 +1,4 @@
-use Rattle.std.proofs.Common.{rules, sym, ap, ◌∙◌, ◌≡◌, ◌<◌, length, Some, true, arith}
+use Rattle.std.proofs.Common.{rules, sym, ap, ◌∙◌, ◌≡◌, ◌<◌, length, Some}
 use Rattle.name_index.specs.Places.{place_of}
 use Rattle.verilog_parts.specs.Ports.{directed}
 use Rattle.verilog_parts.proofs.PortLists.{names_stay, directed_so}
