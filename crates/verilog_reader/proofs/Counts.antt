@@ -1,5 +1,5 @@
 -- A text has few tokens, and leaves no more items.
-use Rattle.std.proofs.Common.{◌≡◌, ◌==◌, nat_lt, drop, Bool, true, false, ℕ, zero, suc, ◌+◌, ◌-◌, ◌≤◌, List, [], ◌∷◌, length, refl, ap, subst, arith}
+use Rattle.std.proofs.Common.{◌≡◌, ◌==◌, nat_lt, drop, Bool, true, false, ℕ, zero, suc, ◌-◌, ◌≤◌, List, [], ◌∷◌, length, refl, arith}
 use Rattle.text_scan.specs.declared.token.Token.{Token}
 use Rattle.text_scan.specs.declared.token.Place.{Place}
 use Rattle.text_scan.specs.declared.token.Style.TheVariants.{Verilog}

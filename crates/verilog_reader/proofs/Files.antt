@@ -1,8 +1,7 @@
 -- A file has one answer, and one turn more makes a file.
-use Rattle.std.proofs.Common.{◌≡◌, ℕ, zero, suc, List, [], ◌∷◌, Result, Ok, Err, refl, sym, ap, subst, ◌∙◌}
+use Rattle.std.proofs.Common.{◌≡◌, ℕ, zero, suc, List, Ok, Err, sym, subst, ◌∙◌}
 use Rattle.text_scan.specs.declared.limits.Limits.{Limits}
-use Rattle.text_scan.specs.declared.refusal.FileRefusal.{FileRefusal}
-use Rattle.grammar.specs.Reading.{Stop, read, IsSimple}
+use Rattle.grammar.specs.Reading.{read}
 use Rattle.verilog_directives.specs.declared.left.Left.{Left}
 use Rattle.verilog_parts.specs.declared.module_text.ModuleText.{ModuleText}
 use Rattle.verilog_parts.specs.declared.udp_text.PrimitiveText.{PrimitiveText}
@@ -16,7 +15,7 @@ use Rattle.verilog_reader.specs.declared.file_text.FileText.{FileText}
 use Rattle.verilog_reader.specs.declared.file_text.Opened.{Opened}
 use Rattle.verilog_reader.specs.declared.file_text.Opened.TheVariants as openings
 use Rattle.verilog_reader.specs.FileGrammar.{outside, part_rest}
-use Rattle.verilog_reader.specs.File.{First, IsFirst, FileAnswer, Next, Goes, Skips, Stops, after_module, after_udp, AfterRest, Then, Opens, AfterOutside, IsFile}
+use Rattle.verilog_reader.specs.File.{First, FileAnswer, Next, Goes, Skips, Stops, after_module, after_udp, AfterRest, Then, Opens, AfterOutside, IsFile}
 use Rattle.verilog_reader.proofs.FirstAnswers.{first_answers, first_is_read}
 use Rattle.verilog_reader.proofs.OutsideFollows.{outside_simple, rest_simple}
 

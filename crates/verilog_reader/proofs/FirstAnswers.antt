@@ -1,13 +1,13 @@
 -- What a rule says of the first items of a list is what is read of them.
-use Rattle.std.proofs.Common.{◌≡◌, Bool, true, false, ◌||◌, ◌&&◌, List, [], ◌∷◌, Result, Ok, Err, refl, sym, ap, subst, ◌∙◌}
-use Rattle.grammar.specs.Rule.{Rule, none, one, seq, many, Takes}
-use Rattle.grammar.specs.Reading.{Stop, syntax, refusal, begins, nullable, ◌>>=◌, read, IsSimple}
+use Rattle.std.proofs.Common.{◌≡◌, Bool, true, false, List, [], ◌∷◌, Ok, Err, refl, sym, ap, subst, ◌∙◌}
+use Rattle.grammar.specs.Rule.{Rule, none, one, seq}
+use Rattle.grammar.specs.Reading.{◌>>=◌, read, IsSimple}
 use Rattle.grammar.specs.Answers.{IsAnswer, read_all, to_end}
 use Rattle.grammar.proofs.Answer.{answers}
 use Rattle.grammar.proofs.Unique.{answer_is_read}
 use Rattle.grammar.proofs.Complete.{Begins, complete}
 use Rattle.grammar.proofs.Tells.{Tells, tells}
-use Rattle.grammar.proofs.Stops.{many_turn, many_end}
+use Rattle.grammar.proofs.Stops.{many_turn}
 use Rattle.verilog_directives.specs.declared.left.Left.{Left}
 use Rattle.verilog_parts.specs.declared.halt.Refusal.{Refusal}
 use Rattle.verilog_reader.specs.FileGrammar.{anything}

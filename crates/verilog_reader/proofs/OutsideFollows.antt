@@ -1,27 +1,24 @@
 -- Each item outside parts, and of the rest of a refused part, leads to what the grammar says.
-use Rattle.std.proofs.Common.{◌≡◌, ℕ, Bool, true, false, cond, ◌||◌, ◌&&◌, ◌==◌, List, [], ◌∷◌, Result, Ok, Err, refl, sym, ap, ◌∙◌, if◌then◌else◌}
+use Rattle.std.proofs.Common.{◌≡◌, ℕ, Bool, true, false, ◌||◌, ◌&&◌, ◌==◌, List, ◌∷◌, Ok, Err, refl, ap, ◌∙◌, if◌then◌else◌}
 use Rattle.text_scan.specs.declared.limits.Limits.{Limits}
-use Rattle.grammar.specs.Rule.{none, one, before, seq, alt, many}
-use Rattle.grammar.specs.Reading.{Stop, syntax, refusal, begins, acting, ◌>>=◌, read, IsSimple}
+use Rattle.grammar.specs.Rule.{none, one, before}
+use Rattle.grammar.specs.Reading.{syntax, refusal, acting, ◌>>=◌, read, IsSimple}
 use Rattle.verilog_directives.specs.declared.left.Left.{Left}
-use Rattle.verilog_parts.specs.declared.halt.Refusal.{Refusal}
 use Rattle.verilog_parts.specs.declared.look.Look.{Look}
 use Rattle.verilog_parts.specs.declared.look.Look.TheVariants as looks
-use Rattle.verilog_parts.specs.Looks.{look_of, is_name, is_module, is_primitive, is_end, is_macro, is_passed, is_unread, is_part_end}
+use Rattle.verilog_parts.specs.Looks.{look_of, is_module, is_primitive, is_end, is_macro, is_passed, is_unread, is_part_end}
 use Rattle.verilog_parts.specs.ModuleGrammar.{is_beside, is_off}
-use Rattle.verilog_parts.proofs.Binds.{bind1}
 use Rattle.verilog_parts.proofs.Repeats.{turns, ends}
 use Rattle.verilog_reader.specs.declared.file_text.FileText.{FileText}
 use Rattle.verilog_reader.specs.declared.file_phase.FilePhase.{FilePhase}
 use Rattle.verilog_reader.specs.declared.file_phase.FilePhase.TheVariants as phases
-use Rattle.verilog_reader.specs.declared.file_phase.FileAction.{FileAction}
 use Rattle.verilog_reader.specs.declared.file_phase.FileAction.TheVariants as actions
 use Rattle.verilog_reader.specs.declared.file_phase.FileMove.{FileMove}
 use Rattle.verilog_reader.specs.declared.file_phase.FileMove.TheVariants as moves
 use Rattle.verilog_reader.specs.FileActions.{perform_file}
 use Rattle.verilog_reader.specs.FileGrammar.{FileRule, act, line_rest, passed_line, module_name, primitive_name, outside, unread, part_rest}
 use Rattle.verilog_reader.specs.File.{First}
-use Rattle.verilog_reader.specs.FileSteps.{at_top, on_line, at_module_word, at_primitive_word}
+use Rattle.verilog_reader.specs.FileSteps.{at_top, at_module_word, at_primitive_word}
 
 module _ (source : List ℕ) (limits : Limits) where
   abbrev Reading : Type 0

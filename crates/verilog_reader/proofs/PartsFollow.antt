@@ -1,7 +1,7 @@
 -- Each item of a part leads to what the grammar says, and parentheses stay few.
-use Rattle.std.proofs.Common.{◌≡◌, ℕ, zero, suc, ◌+◌, ◌-◌, ◌≤◌, ◌<◌, leb, Bool, true, false, ◌==◌, List, [], ◌∷◌, Result, Ok, Err, refl, sym, ap, subst, ◌∙◌, arith}
+use Rattle.std.proofs.Common.{◌≡◌, ℕ, zero, suc, ◌+◌, ◌≤◌, leb, Bool, true, false, ◌==◌, List, ◌∷◌, Result, Ok, Err, refl, ◌∙◌, arith}
 use Rattle.text_scan.specs.declared.limits.Limits.{Limits}
-use Rattle.grammar.specs.Reading.{Stop, syntax, refusal, acting, read}
+use Rattle.grammar.specs.Reading.{syntax, refusal, acting, read}
 use Rattle.verilog_directives.specs.declared.left.Left.{Left}
 use Rattle.verilog_parts.specs.declared.halt.Refusal.{Refusal}
 use Rattle.verilog_parts.specs.declared.halt.Halt.{Halt}

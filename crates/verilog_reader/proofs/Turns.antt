@@ -1,9 +1,8 @@
 -- An item leads a reader of a file to what the grammar says.
-use Rattle.std.proofs.Common.{◌≡◌, ℕ, zero, suc, ◌+◌, ◌≤◌, ◌++◌, Bool, true, false, ◌==◌, ◌&&◌, List, [], ◌∷◌, length, Result, Ok, Err, refl, sym, ap, subst, ◌∙◌, arith, if◌then◌else◌}
+use Rattle.std.proofs.Common.{◌≡◌, ℕ, suc, ◌≤◌, ◌++◌, Bool, true, false, ◌==◌, List, [], ◌∷◌, length, Result, Ok, Err, refl, sym, ap, subst, ◌∙◌, if◌then◌else◌}
 use Rattle.text_scan.specs.declared.limits.Limits.{Limits}
 use Rattle.text_scan.specs.declared.limits.LimitKind.TheVariants as limit_kinds
-use Rattle.text_scan.specs.declared.refusal.FileRefusal.{FileRefusal}
-use Rattle.grammar.specs.Reading.{Stop, syntax, refusal, acting, read}
+use Rattle.grammar.specs.Reading.{syntax, refusal, acting, read}
 use Rattle.name_index.specs.Places.{is_known}
 use Rattle.verilog_directives.specs.declared.left.Left.{Left}
 use Rattle.verilog_parts.specs.declared.halt.Refusal.{Refusal}
@@ -35,14 +34,13 @@ use Rattle.verilog_reader.specs.declared.file_text.Opened.{Opened}
 use Rattle.verilog_reader.specs.declared.file_text.Opened.TheVariants as openings
 use Rattle.verilog_reader.specs.declared.file_phase.FilePhase.{FilePhase}
 use Rattle.verilog_reader.specs.declared.file_phase.FilePhase.TheVariants as phases
-use Rattle.verilog_reader.specs.declared.file_phase.FileAction.{FileAction}
 use Rattle.verilog_reader.specs.declared.file_phase.FileAction.TheVariants as actions
 use Rattle.verilog_reader.specs.declared.file_phase.FileMove.{FileMove}
 use Rattle.verilog_reader.specs.declared.file_phase.FileMove.TheVariants as moves
 use Rattle.verilog_reader.specs.declared.file_reader.FileReader.{FileReader}
 use Rattle.verilog_reader.specs.FileActions.{perform_file, name_part, whole_module, refused_module, whole_udp, refused_udp}
 use Rattle.verilog_reader.specs.FileGrammar.{line_rest, module_name, primitive_name, outside, part_rest}
-use Rattle.verilog_reader.specs.File.{First, FileAnswer, Next, Goes, Skips, Stops, stopped_part, after_module, after_udp, AfterRest, Then, Opens, AfterOutside}
+use Rattle.verilog_reader.specs.File.{First, FileAnswer, Next, Skips, stopped_part, after_module, after_udp, AfterRest, Then, Opens, AfterOutside}
 use Rattle.verilog_reader.specs.Refusals.{item_refusal, told_refusal}
 use Rattle.verilog_reader.specs.FileSteps.{Stepped, at_top, on_line, at_line, at_module_word, at_primitive_word, moved, outside_step, rest_step, skipped, stop_module, module_refused, in_module, stop_udp, udp_refused, in_udp, file_taken, is_done}
 use Rattle.verilog_reader.specs.Bounds.{Sits, IsLive}

@@ -1,6 +1,5 @@
 -- What the reader tells is what the grammar says of the whole text.
 use Rattle.std.proofs.Common.{◌≡◌, ℕ, zero, suc, ◌+◌, ◌≤◌, ◌<◌, ◌^◌, ◌-◌, ◌||◌, ◌==◌, Bool, true, false, cond, List, [], ◌∷◌, length, Result, Ok, Err, ◌⊎◌, inl, inr, refl, sym, ap, subst, ◌∙◌, arith}
-use Rattle.text_scan.specs.declared.token.Token.{Token}
 use Rattle.text_scan.specs.declared.token.Kind.{Kind}
 use Rattle.text_scan.specs.declared.token.Kind.TheVariants as kinds
 use Rattle.text_scan.specs.declared.limits.Limits.{Limits}
@@ -29,7 +28,7 @@ use Rattle.verilog_parts.specs.declared.udp_phase.UdpPhase.{UdpPhase}
 use Rattle.verilog_parts.specs.declared.udp_phase.UdpPhase.TheVariants as udp_phases
 use Rattle.verilog_parts.specs.declared.udp_phase.UdpMove.TheVariants as udp_moves
 use Rattle.verilog_parts.specs.declared.udp_reader.UdpReader.{UdpReader}
-use Rattle.verilog_parts.specs.Looks.{text, kind_look, look_of, is_passed, are_symbols}
+use Rattle.verilog_parts.specs.Looks.{look_of, is_passed, are_symbols}
 use Rattle.verilog_parts.specs.Names.{word_of}
 use Rattle.verilog_parts.specs.ModuleMoves as modules
 use Rattle.verilog_parts.specs.ModuleGrammar.{ModuleRule, port_name, net_port, port, further_ports, declared_name, further_names, names_end, names, closing, parentheses, between, delay_value, delay, terminal, further_terminals, terminals_end, terminals, connections, instance, further_instances, instances_end, instances, delayed, beside_line, specified, specify_end, item, module_end, items, header_end, ports_end, listed, ports, module_body}
@@ -49,9 +48,9 @@ use Rattle.verilog_reader.specs.FileActions.{perform_file, no_file, refused_modu
 use Rattle.verilog_reader.specs.File.{FileAnswer, IsSource}
 use Rattle.verilog_reader.specs.FileSteps.{Stepped, at_top, at_line, at_module_word, at_primitive_word, outside_step, file_move, rest_step, skipped, moved, stop_module, module_refused, in_module, stop_udp, udp_refused, in_udp, file_taken, file_begun, is_done}
 use Rattle.verilog_reader.specs.Bounds.{Sits, IsLive}
-use Rattle.verilog_reader.specs.Told.{Agrees, Steps}
+use Rattle.verilog_reader.specs.Told.{Steps}
 use Rattle.verilog_reader.specs.Promise.{IsRead}
-use Rattle.verilog_reader.proofs.Files.{Some, one_more, one_answer}
+use Rattle.verilog_reader.proofs.Files.{one_more}
 use Rattle.verilog_reader.proofs.PartsFollow.{Settles, settles}
 use Rattle.verilog_reader.proofs.Turns.{FromHere, Turned, turned_map, turn}
 use Rattle.verilog_reader.proofs.Counts.{few_left}

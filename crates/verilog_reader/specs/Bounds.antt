@@ -1,5 +1,5 @@
 -- Where a reader of a file may stand, and before how many items.
-use Rattle.std.specs.Prelude.{◌≡◌, ℕ, ◌≤◌, ◌+◌, Bool, false}
+use Rattle.std.specs.Prelude.{◌≡◌, ℕ, ◌≤◌, ◌+◌, false}
 use Rattle.verilog_parts.specs.declared.module_phase.ModulePhase.{ModulePhase}
 use Rattle.verilog_parts.specs.declared.module_phase.ModulePhase.TheVariants as module_phases
 use Rattle.verilog_parts.specs.ModuleMoves as modules

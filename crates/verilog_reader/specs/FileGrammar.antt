@@ -1,5 +1,5 @@
 -- The grammar outside parts, and of the rest of a part that is refused.
-use Rattle.std.specs.Prelude.{ℕ, Bool, true, List, Result, Ok}
+use Rattle.std.specs.Prelude.{ℕ, Bool, true, List, Ok}
 use Rattle.text_scan.specs.declared.limits.Limits.{Limits}
 use Rattle.grammar.specs.Rule.{Rule, none, one, before, seq, alt, many}
 use Rattle.verilog_directives.specs.declared.left.Left.{Left}

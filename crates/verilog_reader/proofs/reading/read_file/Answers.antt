@@ -1,6 +1,5 @@
-use Rattle.std.proofs.Common.{rules, sym, ◌∙◌, ◌≡◌, ◌<◌, ◌+◌, ◌^◌, length, false, true, arith}
+use Rattle.std.proofs.Common.{sym, ◌∙◌, ◌<◌, ◌+◌, ◌^◌, length, arith}
 use Rattle.verilog_directives.specs.Directives.{left}
-use Rattle.verilog_reader.specs.FileSteps.{is_done}
 use Rattle.verilog_reader.proofs.Whole.{at_start, bounded, goes_on, smaller, no_memory, told_err, whole}
 use Rattle.verilog_reader.proofs.reading.read_file.Goals as goal
 
