@@ -1,0 +1,15 @@
+pub mod Looks
+pub mod Names
+pub mod Ports
+pub mod Held
+pub mod Does
+pub mod ModuleActions
+pub mod ModuleGrammar
+pub mod ModuleMoves
+pub mod ModuleBounds
+pub mod ModuleToCome
+pub mod UdpActions
+pub mod UdpGrammar
+pub mod UdpMoves
+pub mod UdpToCome
+pub mod UdpBounds

@@ -1,0 +1,61 @@
+-- What a rule says of the first items of a list is what is read of them.
+use Rattle.std.proofs.Common.{◌≡◌, Bool, true, false, List, [], ◌∷◌, Ok, Err, refl, sym, ap, subst, ◌∙◌}
+use Rattle.grammar.specs.Rule.{Rule, none, one, seq}
+use Rattle.grammar.specs.Reading.{◌>>=◌, read, IsSimple}
+use Rattle.grammar.specs.Answers.{IsAnswer, read_all, to_end}
+use Rattle.grammar.proofs.Answer.{answers}
+use Rattle.grammar.proofs.Unique.{answer_is_read}
+use Rattle.grammar.proofs.Complete.{Begins, complete}
+use Rattle.grammar.proofs.Tells.{Tells, tells}
+use Rattle.grammar.proofs.Stops.{many_turn}
+use Rattle.verilog_directives.specs.declared.left.Left.{Left}
+use Rattle.verilog_parts.specs.declared.halt.Refusal.{Refusal}
+use Rattle.verilog_reader.specs.FileGrammar.{anything}
+use Rattle.verilog_reader.specs.File.{First, IsFirst}
+
+abbrev any_item : (S : Type 0) → Rule Left S Refusal
+any_item S = one (λ t. true) (λ t s. Ok s) (λ t. none)
+
+one_simple : (S : Type 0) (next : Left → Bool) → IsSimple (any_item S) next
+unfolding IsSimple
+one_simple S next t e = tt
+
+-- anything is read to its end
+anything_read : {S : Type 0} (s : S) (ts : List Left) → read (anything {S = S}) s ts ≡ Ok (s, [])
+anything_read s [] = refl
+anything_read {S} s (t ∷ ts) = many_turn (any_item S) (λ t. false) (one_simple S _) refl s (t ∷ ts) refl ∙ anything_read s ts
+
+-- the rule is simple, whatever follows it
+abbrev pub Simple : {S : Type 0} → Rule Left S Refusal → Type 0
+Simple a = (next : Left → Bool) → IsSimple a next
+
+with_anything : {S : Type 0} (a : Rule Left S Refusal) → Simple a → IsSimple (seq a anything) (λ t. false)
+unfolding IsSimple
+with_anything {S} a h = (h _, (refl, refl, (λ t e. refl), one_simple S (λ t. true)))
+
+read_on : {S : Type 0} (a : Rule Left S Refusal) (s : S) (ts : List Left) (o : First S) → read a s ts ≡ o → read_all (seq a anything) s ts ≡ to_end (o >>= λ x. read anything x.0 x.1)
+read_on a s ts o e = ap (λ r. to_end (r >>= λ x. read anything x.0 x.1)) e
+
+-- what is read is what the rule says
+pub first_answers : {S : Type 0} (a : Rule Left S Refusal) → Simple a → (s : S) (ts : List Left) → IsFirst a s ts (read a s ts)
+first_answers {S} a h s ts = go (read a s ts) refl (tells a (λ t. true) (h _) s ts) (answers (seq a anything) (with_anything a h) s ts)
+  where
+    go : (o : First S) → read a s ts ≡ o → Tells a (λ t. true) s ts o → IsAnswer (seq a anything) s ts (read_all (seq a anything) s ts) → IsFirst a s ts o
+    go (Ok x) e ta w = ta.shows
+    go (Err stop) e ta w = subst (λ r. IsAnswer (seq a anything) s ts r) (read_on a s ts (Err stop) e) w
+
+begins_true : (ts : List Left) → Begins (λ t. true) ts
+begins_true [] = tt
+begins_true (t ∷ ts) = refl
+
+-- whatever the rule says is read
+pub first_is_read : {S : Type 0} (a : Rule Left S Refusal) → Simple a → (s : S) (ts : List Left) (o : First S) → IsFirst a s ts o → read a s ts ≡ o
+first_is_read a h s ts (Ok x) w = complete a (λ t. true) (h _) s x.0 ts x.1 w (begins_true x.1)
+first_is_read {S} a h s ts (Err stop) w = go (read a s ts) refl
+  where
+    all : read_all (seq a anything) s ts ≡ Err stop
+    all = answer_is_read (seq a anything) (with_anything a h) s ts (Err stop) w
+
+    go : (o : First S) → read a s ts ≡ o → o ≡ Err stop
+    go (Ok x) e = absurd (let whole : to_end (read (anything {S = S}) x.0 x.1) ≡ Ok x.0 = ap to_end (anything_read x.0 x.1) in let bad = sym whole ∙ sym (read_on a s ts (Ok x) e) ∙ all in cc)
+    go (Err other) e = let same = sym (read_on a s ts (Err other) e) ∙ all in ap Err (let g : to_end {S = S} (Err other) ≡ Err stop = same in cc)

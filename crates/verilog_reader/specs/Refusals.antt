@@ -1,0 +1,58 @@
+-- How a refusal of the file is told.
+use Rattle.std.specs.Prelude.{ℕ, List, [], ◌∷◌}
+use Rattle.text_scan.specs.declared.token.Token.{Token}
+use Rattle.text_scan.specs.declared.limits.Limits.{Limits}
+use Rattle.text_scan.specs.declared.limits.LimitKind.{LimitKind}
+use Rattle.text_scan.specs.declared.limits.LimitKind.TheVariants as limit_kinds
+use Rattle.text_scan.specs.declared.refusal.FileRefusal.{FileRefusal}
+use Rattle.text_scan.specs.declared.refusal.FileRefusal.TheVariants as told
+use Rattle.grammar.specs.Reading.{Stop, syntax, refusal}
+use Rattle.verilog_directives.specs.declared.left.Left.{Left}
+use Rattle.verilog_directives.specs.declared.left.Role.{Role}
+use Rattle.verilog_directives.specs.declared.left.Role.TheVariants as roles
+use Rattle.verilog_parts.specs.declared.halt.Refusal.{Refusal}
+use Rattle.verilog_parts.specs.declared.halt.Refusal.TheVariants as refusals
+use Rattle.verilog_parts.specs.Names.{content}
+
+abbrev pub limit_of : Limits → LimitKind → ℕ
+limit_of limits limit_kinds.Name = limits.name
+limit_of limits limit_kinds.Cells = limits.cells
+limit_of limits limit_kinds.Nesting = limits.nesting
+limit_of limits _ = 0
+
+-- a token's place
+abbrev pub at_token : Token → FileRefusal
+at_token t = told.Syntax t.span.line t.span.column
+
+abbrev pub too_many : Limits → LimitKind → FileRefusal
+too_many limits kind = told.TooMany kind (limit_of limits kind)
+
+abbrev pub role_refusal : Limits → Role → Token → FileRefusal
+role_refusal limits roles.Plain t = at_token t
+role_refusal limits roles.Macro t = at_token t
+role_refusal limits roles.Misplaced t = at_token t
+role_refusal limits roles.TooDeep t = too_many limits limit_kinds.Nesting
+role_refusal limits roles.LongName t = too_many limits limit_kinds.Name
+
+-- an item that may not stand where it stands
+abbrev pub item_refusal : Limits → Left → FileRefusal
+item_refusal limits t = role_refusal limits t.role t.token
+
+abbrev pub first_refusal : Limits → List Left → FileRefusal
+first_refusal limits [] = told.Syntax 0 0
+first_refusal limits (t ∷ ts) = item_refusal limits t
+
+abbrev pub double_name : List ℕ → Token → FileRefusal
+double_name source t = told.DoubleName (content source t) t.span.line
+
+-- what an action refuses at the first of these items
+abbrev pub told_refusal : List ℕ → Limits → Refusal → List Left → FileRefusal
+told_refusal source limits (refusals.TooMany kind) ts = too_many limits kind
+told_refusal source limits (refusals.BadName t) ts = at_token t
+told_refusal source limits (refusals.DoubleName t) ts = double_name source t
+told_refusal source limits refusals.Here ts = first_refusal limits ts
+told_refusal source limits (refusals.NoDirection name) ts = first_refusal limits ts
+
+abbrev pub told_stop : List ℕ → Limits → Stop Left Refusal → FileRefusal
+told_stop source limits (syntax ts) = first_refusal limits ts
+told_stop source limits (refusal e ts) = told_refusal source limits e ts

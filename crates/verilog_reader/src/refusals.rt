@@ -1,0 +1,80 @@
+//! How a refusal of the file is told.
+ghost use Rattle.std.specs.Prelude.{◌≡◌, ◌∷◌, []};
+ghost use Rattle.verilog_reader.specs.Refusals as spec;
+ghost use Rattle.verilog_reader.specs.Told.{Tells};
+
+use std::alloc::Global;
+use text_scan::{FileRefusal, LimitKind, Limits, Text, Token};
+use verilog_directives::{Left, Role};
+use verilog_parts::{Refusal, content};
+
+fn limit_of(limits: &Limits, kind: LimitKind) -> u32
+    ensures { result ≡ spec.limit_of limits.now kind }
+{
+    match kind {
+        LimitKind::Name => limits.name,
+        LimitKind::Cells => limits.cells,
+        LimitKind::Nesting => limits.nesting,
+        _ => 0,
+    }
+}
+
+fn at_token(token: Token) -> FileRefusal
+    ensures { result ≡ spec.at_token token }
+{
+    FileRefusal::Syntax {
+        line: token.span.line,
+        column: token.span.column,
+    }
+}
+
+fn too_many(limits: &Limits, kind: LimitKind) -> FileRefusal
+    ensures { result ≡ spec.too_many limits.now kind }
+{
+    FileRefusal::TooMany {
+        kind,
+        number: limit_of(limits, kind),
+    }
+}
+
+/// What is told of an item that may not stand where it stands.
+pub fn item_refusal(limits: &Limits, item: &Left) -> FileRefusal
+    ensures { result ≡ spec.item_refusal limits.now item.now }
+{
+    match item.role {
+        Role::Plain | Role::Macro | Role::Misplaced => at_token(item.token),
+        Role::TooDeep => too_many(limits, LimitKind::Nesting),
+        Role::LongName => too_many(limits, LimitKind::Name),
+    }
+}
+
+fn double_name(alloc: Global, source: &[u8], token: Token) -> FileRefusal
+    ensures { Tells result (spec.double_name source.now token) }
+{
+    match Text::from_bytes(alloc, content(source, token)) {
+        Ok(name) => FileRefusal::DoubleName {
+            name,
+            line: token.span.line,
+        },
+        Err(_) => FileRefusal::NoMemory,
+    }
+}
+
+/// What is told of what an action refuses at an item.
+pub fn told_refusal(
+    alloc: Global,
+    source: &[u8],
+    limits: &Limits,
+    refusal: Refusal,
+    item: &Left,
+) -> FileRefusal
+    ensures { Tells result (spec.told_refusal source.now limits.now refusal (item.now ∷ [])) }
+{
+    match refusal {
+        Refusal::TooMany(kind) => too_many(limits, kind),
+        Refusal::BadName(token) => at_token(token),
+        Refusal::DoubleName(token) => double_name(alloc, source, token),
+        Refusal::Here => item_refusal(limits, item),
+        Refusal::NoDirection(_) => item_refusal(limits, item),
+    }
+}
