@@ -1,5 +1,5 @@
 -- Entering a record after others.
-use Rattle.std.proofs.Common.{◌≡◌, ◌≢◌, ◌≤◌, ◌<◌, ◌+◌, ◌++◌, ℕ, zero, suc, Bool, true, false, List, [], ◌∷◌, length, map, subst, Option, Some, None, refl, sym, ap, ◌∙◌, arith, Result, Ok, Err}
+use Rattle.std.proofs.Common.{◌≡◌, ◌≢◌, ◌≤◌, ◌<◌, ◌+◌, ◌++◌, ℕ, zero, suc, true, false, List, [], ◌∷◌, length, subst, Option, Some, None, refl, sym, ap, ◌∙◌, arith}
 use Rattle.std.specs.Prelude.{filter_map, if◌then◌else◌, nat_le}
 use Rattle.std.specs.List.{cons_option}
 use Rattle.std.proofs.lemmas.List.{map-append, length-map}
@@ -13,7 +13,7 @@ use Rattle.csv.specs.Records.{field_at}
 use Rattle.tech_reader.specs.Fields.{first_of, wrong}
 use Rattle.tech_reader.specs.Held.{Holds, Kept}
 use Rattle.tech_reader.specs.Row.{items_of}
-use Rattle.tech_reader.specs.Tech.{Tells, double, doubled, key, model_of, refusal_after, size_of, supply_of}
+use Rattle.tech_reader.specs.Tech.{Tells, double, key, model_of, refusal_after, size_of, supply_of}
 use Rattle.tech_reader.specs.declared.parts.Parts.{Parts}
 
 -- a field that isn't there is past the end

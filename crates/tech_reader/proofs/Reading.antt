@@ -1,7 +1,7 @@
 -- What a reader of records has left.
-use Rattle.std.proofs.Common.{◌≡◌, ℕ, Bool, true, false, List, [], ◌∷◌, Option, Some, None, refl, sym, ap, ◌∙◌, inl}
+use Rattle.std.proofs.Common.{◌≡◌, ℕ, Bool, true, false, List, [], Option, Some, None, refl, ◌∙◌, inl}
 use Rattle.std.specs.Borrow.{Bor}
-use Rattle.csv.specs.Machine.{Read, ends_at_end, next_record}
+use Rattle.csv.specs.Machine.{Read, next_record}
 use Rattle.csv.specs.Reading.{NextIs, ReadRecord, ReadsNext, default_config, is_flexible, pending_of, took_first}
 use Rattle.csv.specs.declared.parser.Config.{Config}
 use Rattle.csv.specs.declared.parser.State.{State}

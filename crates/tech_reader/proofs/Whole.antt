@@ -1,5 +1,5 @@
 -- The records of a whole text, one after the other.
-use Rattle.std.proofs.Common.{◌≡◌, ◌++◌, ℕ, true, false, List, [], ◌∷◌, Option, Some, None, Result, Ok, Err, refl, sym, ap, ◌∙◌, append_assoc}
+use Rattle.std.proofs.Common.{◌≡◌, ◌++◌, ℕ, true, false, List, [], ◌∷◌, Some, None, Ok, Err, refl, sym, ap, ◌∙◌, append_assoc}
 use Rattle.std.proofs.lemmas.List.{append-nil}
 use Rattle.std.specs.Borrow.{Bor}
 use Rattle.csv.specs.declared.reader.Reader.{Reader}
@@ -9,7 +9,7 @@ use Rattle.text_scan.specs.declared.refusal.FileRefusal.TheVariants as refusals
 use Rattle.circuit.specs.declared.tech.Tech.{Tech}
 use Rattle.tech_reader.specs.Held.{Holds}
 use Rattle.tech_reader.specs.Records.{Gave, HasLeft, records_of}
-use Rattle.tech_reader.specs.Tech.{Agrees, Tells, answer, first_refusal, refusal_after, tech_of, told}
+use Rattle.tech_reader.specs.Tech.{Agrees, Tells, first_refusal, refusal_after, tech_of, told}
 use Rattle.tech_reader.specs.declared.parts.Parts.{Parts}
 
 -- the records that were read and those that are left are those of the text, and none of the former is refused

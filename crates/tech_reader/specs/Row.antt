@@ -1,5 +1,5 @@
 -- The four fields of a record as the code has them.
-use Rattle.std.specs.Prelude.{ℕ, ◌≡◌, List, [], ◌∷◌, ◌++◌, Option, None, Some, Result, Ok, Err}
+use Rattle.std.specs.Prelude.{ℕ, ◌≡◌, List, [], ◌∷◌, Option, None, Some, Result, Ok, Err}
 use Rattle.text_scan.specs.declared.refusal.FileRefusal.{FileRefusal}
 use Rattle.tech_reader.specs.Fields.{kind_of}
 use Rattle.tech_reader.specs.declared.fields.Fields.{Fields}

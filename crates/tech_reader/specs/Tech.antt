@@ -1,5 +1,5 @@
 -- What a list of records is read as.
-use Rattle.std.specs.Prelude.{ℕ, Bool, ◌+◌, ◌≡◌, nat_le, if◌then◌else◌, List, [], ◌∷◌, ◌++◌, length, map, filter_map, codes, Option, Some, None, Result, Ok, Err}
+use Rattle.std.specs.Prelude.{ℕ, ◌+◌, ◌≡◌, nat_le, if◌then◌else◌, List, [], ◌∷◌, ◌++◌, length, map, filter_map, codes, Option, Some, None, Result, Ok, Err}
 use Rattle.std.specs.Str.{bytes_eq}
 use Rattle.name_index.specs.Places.{is_known}
 use Rattle.text_scan.specs.declared.limits.Limits.{Limits}

@@ -1,4 +1,4 @@
-use Rattle.std.proofs.Common.{◌∙◌, inr, refl, sym}
+use Rattle.std.proofs.Common.{◌∙◌, inr, refl}
 use Rattle.csv.specs.Reading.{strip_bom}
 use Rattle.tech_reader.specs.Records.{records_of}
 use Rattle.tech_reader.proofs.rows.open.Goals as goal

@@ -1,4 +1,4 @@
-use Rattle.std.proofs.Common.{◌≡◌, ◌∙◌, Err, true, false, arith, length, rules, sym}
+use Rattle.std.proofs.Common.{◌≡◌, ◌∙◌, Err, true, false, rules, sym}
 use Rattle.csv.specs.Records.{fields_of}
 use Rattle.name_index.specs.Places.{is_known}
 use Rattle.tech_reader.specs.Row.{row_of}
