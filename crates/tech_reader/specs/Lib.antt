@@ -1,0 +1,6 @@
+pub mod Names
+pub mod Fields
+pub mod Records
+pub mod Tech
+pub mod Row
+pub mod Held

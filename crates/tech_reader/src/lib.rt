@@ -1,0 +1,13 @@
+//! Reads a technology: the models, sizes and supplies of a text of comma-separated values.
+#![tactic(auto)]
+
+mod fields;
+mod names;
+mod parts;
+mod public_call;
+mod rows;
+
+pub use public_call::read_tech;
+
+#[cfg(test)]
+mod tests;

@@ -1,0 +1,30 @@
+//! The public call.
+ghost use Rattle.tech_reader.specs.Records.{records_of};
+ghost use Rattle.tech_reader.specs.Tech.{Agrees, told};
+
+use crate::parts::Parts;
+use crate::rows::{next_row, open};
+use circuit::Tech;
+use csv::ByteRecord;
+use std::alloc::Global;
+use text_scan::{FileRefusal, Limits};
+
+/// Reads the text of a technology: comma-separated values, four fields a record, within these limits.
+///
+/// The answer is what the text's records tell: the technology where each of them is right, else the first thing for
+/// which one is refused. Its line is the record's number and its column the field's, both from 1; column 0 tells of
+/// another number of fields than four. Only want of memory is not told by the definition.
+pub fn read_tech(alloc: Global, text: &[u8], limits: &Limits) -> Result<Tech, FileRefusal>
+    ensures { Agrees result (told limits.now (records_of text.now)) }
+{
+    let mut reader = open(alloc, text);
+    let mut row = ByteRecord::new(alloc);
+    let mut parts = Parts::new(alloc);
+    'records: loop {
+        let found = next_row(&mut reader, &mut row)?;
+        if !found {
+            return Ok(parts.into_tech());
+        }
+        parts.enter(alloc, limits, &row)?;
+    }
+}
