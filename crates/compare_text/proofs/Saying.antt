@@ -32,7 +32,7 @@ other_end front rest block b e ne h =
     ne (same_end (h.0 ++ codes "verdict equa") (front ++ rest) 108 b (append_assoc h.0 (codes "verdict equa") (108 ∷ 10 ∷ []) ∙ f ∙ sym (append_assoc front rest (b ∷ 10 ∷ []))))
 
 parted : (name : List ℕ) (c : Comparison) → block name c ≡ (line (codes "compare " ++ name) ++ found_lines c) ++ line (codes "verdict " ++ verdict_word (verdict_of c))
-parted name c = sym (append_assoc (line (codes "compare " ++ name)) (found_lines c) (line (codes "verdict " ++ verdict_word (verdict_of c))))
+parted name c = refl
 
 pub says_equal : (name : List ℕ) (c : Comparison) → EndsIn (block name c) (codes "verdict equal") → SaysEqual c
 says_equal name (Refused r) h = absurd (other_end (line (codes "compare " ++ name) ++ found_lines (Refused r)) (codes "verdict refuse") (block name (Refused r)) 100 (parted name (Refused r)) (λ e. omega arith) h)
@@ -40,7 +40,7 @@ says_equal name (Pins found) h = absurd (other_end (line (codes "compare " ++ na
 says_equal name (Vectors n d None) h = tt
 says_equal name (Vectors n d (Some f)) h = absurd (other_end (line (codes "compare " ++ name) ++ found_lines (Vectors n d (Some f))) (codes "verdict differ") (block name (Vectors n d (Some f))) 115 (parted name (Vectors n d (Some f))) (λ e. omega arith) h)
 
-block_list : List CellPart → List Comparison → List (List ℕ)
+abbrev block_list : List CellPart → List Comparison → List (List ℕ)
 block_list [] cs = []
 block_list (p ∷ parts) [] = []
 block_list (p ∷ parts) (c ∷ cs) = block (cell_name p) c ∷ block_list parts cs
@@ -54,18 +54,21 @@ are_blocks : (parts : List CellPart) (source : Source) (cs : List Comparison) �
 are_blocks [] source [] a = tt
 are_blocks [] source (c ∷ cs) a = absurd a
 are_blocks (p ∷ parts) source [] a = absurd a
-are_blocks (p ∷ parts) source (c ∷ cs) a = ((found_lines c ++ line (codes "verdict " ++ verdict_word (verdict_of c)), refl), are_blocks parts source cs a.1)
+are_blocks (p ∷ parts) source (c ∷ cs) a = ((found_lines c ++ line (codes "verdict " ++ verdict_word (verdict_of c)), append_assoc (line (codes "compare " ++ cell_name p)) (found_lines c) (line (codes "verdict " ++ verdict_word (verdict_of c)))), are_blocks parts source cs a.1)
 
 abbrev pub EqualMeansEqual : Type 0
 EqualMeansEqual = (part : CellPart) (source : Source) (c : Comparison) → IsComparison part source c → SaysEqual c → IsEqualPart part source
+
+some_same : {X : Type 0} (x y : X) → Some x ≡ Some y → x ≡ y
+some_same x y e = cc
 
 truly : EqualMeansEqual → (parts : List CellPart) (source : Source) (cs : List Comparison) → AreComparisons parts source cs
     → (k : ℕ) (p : CellPart) (b : List ℕ) → slice_get parts k ≡ Some p → slice_get (block_list parts cs) k ≡ Some b → EndsIn b (codes "verdict equal") → IsEqualPart p source
 truly law [] source cs a k p b e f h = absurd cc
 truly law (q ∷ parts) source [] a k p b e f h = absurd a
 truly law (q ∷ parts) source (c ∷ cs) a zero p b e f h =
-    let same : q ≡ p = cc in
-    let block_is : block (cell_name q) c ≡ b = cc in
+    let same : q ≡ p = some_same q p e in
+    let block_is : block (cell_name q) c ≡ b = some_same (block (cell_name q) c) b f in
     let ends : EndsIn (block (cell_name q) c) (codes "verdict equal") = (h.0, block_is ∙ h.1) in
     subst (λ x. IsEqualPart x source) same (law q source c a.0 (says_equal (cell_name q) c ends))
 truly law (q ∷ parts) source (c ∷ cs) a (suc k) p b e f h = truly law parts source cs a.1 k p b e f h

@@ -4,6 +4,7 @@ ghost use Rattle.std.specs.List.{flat_map};
 ghost use Rattle.verdict_text.specs.Lines.{finding_line};
 ghost use Rattle.compare_text.specs.Text as spec;
 
+use crate::report::Totals;
 use crate::verdict::verdict_of;
 use cell_compare::Comparison;
 use std::alloc::Global;
@@ -96,4 +97,27 @@ pub(crate) fn put_block(
     put_line(text, b"compare ", name)?;
     put_found(alloc, text, comparison)?;
     put_line(text, b"verdict ", verdict_of(comparison).word().as_bytes())
+}
+
+fn put_count(alloc: Global, text: &mut Vec<u8>, front: &[u8], n: usize) -> Result<(), NoMemory>
+    ensures { OnOk result (text.new.items ≡ text.old.items ++ front.now ++ decimal n) }
+{
+    text.extend_from_slice(front)?;
+    text.extend_from_slice(number(alloc, n)?.as_bytes())?;
+    Ok(())
+}
+
+/// Appends the line of totals.
+pub(crate) fn put_totals(
+    alloc: Global,
+    text: &mut Vec<u8>,
+    totals: Totals,
+) -> Result<(), NoMemory>
+    ensures { OnOk result (text.new.items ≡ text.old.items ++ spec.line (spec.total_words totals)) }
+{
+    put_count(alloc, text, b"total equal ", totals.equal)?;
+    put_count(alloc, text, b" differs ", totals.differs)?;
+    put_count(alloc, text, b" refused ", totals.refused)?;
+    text.push(b'\n')?;
+    Ok(())
 }

@@ -1,9 +1,9 @@
 //! The report on a library.
-ghost use Rattle.std.specs.Prelude.{◌≡◌, ◌++◌, ◌<◌, ◌+◌, ◌^◌, IfOk, OnOk, codes, decimal, string_bytes};
+ghost use Rattle.std.specs.Prelude.{◌≡◌, ◌<◌, ◌+◌, ◌^◌, IfOk};
 ghost use Rattle.compare_text.specs.Text as spec;
 ghost use Rattle.compare_text.specs.Blocks.{SaysEqualTruly};
 
-use crate::block::{put_block, put_line};
+use crate::block::{put_block, put_line, put_totals};
 use crate::verdict::{CompareVerdict, verdict_of};
 use cell_compare::laws::equal_means_equal;
 use cell_compare::{Models, compare_part};
@@ -41,15 +41,6 @@ impl Totals {
     }
 }
 
-fn total_words(alloc: Global, totals: Totals) -> Result<String, NoMemory>
-    ensures { IfOk result (λ s. string_bytes s ≡ spec.total_words totals) }
-{
-    let equal = totals.equal;
-    let differs = totals.differs;
-    let refused = totals.refused;
-    Ok(format!(in alloc; "total equal {equal} differs {differs} refused {refused}")?)
-}
-
 fn cell_name(part: &CellPart) -> &Text
     ensures { result.now ≡ spec.cell_name part.now }
 {
@@ -81,7 +72,7 @@ pub fn compare_library(
         put_block(alloc, &mut text, cell_name(part).as_bytes(), &comparison)?;
         totals = totals.with(verdict_of(&comparison));
     }
-    put_line(&mut text, b"", total_words(alloc, totals)?.as_bytes())?;
+    put_totals(alloc, &mut text, totals)?;
     put_line(&mut text, b"", b"end")?;
     Ok(CompareReport {
         text: Text::from_vec(text),

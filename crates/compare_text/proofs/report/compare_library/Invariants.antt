@@ -1,5 +1,5 @@
 use Rattle.std.proofs.Common.{◌≡◌, ◌+◌, take}
-use Rattle.compare_text.proofs.Report.{IsBegun}
+use Rattle.compare_text.proofs.Growing.{IsBegun}
 use Rattle.compare_text.proofs.report.compare_library.Given as goal
 
 abbrev pub invariant-loop-part : goal.invariant-loop-part

@@ -1,13 +1,15 @@
 -- A report that grows by a cell.
-use Rattle.std.proofs.Common.{◌≡◌, ℕ, ◌+◌, refl, sym, ◌∙◌, ap, arith, List, [], ◌∷◌, ◌++◌, append_assoc, append-nil, length}
+use Rattle.std.proofs.Common.{◌≡◌, ◌≤◌, ◌<◌, ℕ, zero, suc, ◌+◌, take, get_or, subst, codes, refl, sym, ◌∙◌, ap, arith, List, [], ◌∷◌, ◌++◌, append_assoc, append-nil, length}
 use Rattle.liberty_source.specs.declared.CellPart.{CellPart}
 use Rattle.verilog_source.specs.declared.Source.{Source}
 use Rattle.cell_compare.specs.declared.comparison.Comparison.{Comparison}
 use Rattle.cell_compare.specs.Compare.{IsComparison}
 use Rattle.compare_text.specs.declared.verdict.CompareVerdict.{CompareVerdict}
 use Rattle.compare_text.specs.declared.verdict.CompareVerdict.TheVariants.{Equal, Differs, Refused}
+use Rattle.liberty_source.specs.declared.Library.{Library}
 use Rattle.compare_text.specs.declared.report.Totals.{Totals}
-use Rattle.compare_text.specs.Text.{verdict_of, block, cell_name, blocks, with_verdict, no_cells, totals_of, AreComparisons}
+use Rattle.compare_text.specs.declared.report.CompareReport.{CompareReport}
+use Rattle.compare_text.specs.Text.{verdict_of, block, cell_name, line, blocks, with_verdict, no_cells, totals_of, total_words, AreComparisons, IsReport}
 
 either_order : (v w : CompareVerdict) (t : Totals) → with_verdict v (with_verdict w t) ≡ with_verdict w (with_verdict v t)
 either_order Equal Equal t = refl
@@ -63,3 +65,39 @@ pub count_more : (v : CompareVerdict) (t : Totals) → (with_verdict v t).equal 
 count_more Equal t = omega arith
 count_more Differs t = omega arith
 count_more Refused t = omega arith
+
+take_more : {X : Type 0} (xs : List X) (k : ℕ) (x : X) → k < length xs → x ≡ get_or xs k x → take (k + 1) xs ≡ take k xs ++ x ∷ []
+take_more [] k x h e = absurd (omega arith)
+take_more (y ∷ xs) zero x h e = let f : x ≡ y = e in rw f refl
+take_more (y ∷ xs) (suc k) x h e =
+    let n : suc k + 1 ≡ suc (k + 1) = omega arith in
+    ap (λ i. take i (y ∷ xs)) n ∙ ap (λ ys. y ∷ ys) (take_more xs k x (omega arith) e)
+
+take_all : {X : Type 0} (xs : List X) (k : ℕ) → length xs ≤ k → take k xs ≡ xs
+take_all [] zero h = refl
+take_all [] (suc k) h = refl
+take_all (x ∷ xs) zero h = absurd (omega arith)
+take_all (x ∷ xs) (suc k) h = ap (λ ys. x ∷ ys) (take_all xs k (omega arith))
+
+-- the next cell
+pub next_cell : (parts : List CellPart) (k : ℕ) (source : Source) (text text' : List ℕ) (totals totals' : Totals) (p : CellPart) (c : Comparison)
+    → k < length parts → p ≡ get_or parts k p → IsBegun (take k parts) source text totals → IsComparison p source c → text' ≡ text ++ block (cell_name p) c → totals' ≡ with_verdict (verdict_of c) totals
+    → IsBegun (take (k + 1) parts) source text' totals'
+next_cell parts k source text text' totals totals' p c h e b i f g =
+    subst (λ ps. IsBegun ps source text' totals') (sym (take_more parts k p h e)) (more (take k parts) source text text' totals totals' p c b i f g)
+
+pub finished : (library : Library) (source : Source) (k : ℕ) (text : List ℕ) (report : CompareReport) → length library.cells ≤ k → IsBegun (take k library.cells) source text report.totals
+    → report.text ≡ text ++ line (total_words report.totals) ++ line (codes "end") → IsReport library source report
+finished library source k text report h b e =
+    let whole = subst (λ ps. IsBegun ps source text report.totals) (take_all library.cells k h) b in
+    record {
+      comparisons = whole.comparisons;
+      each = whole.each;
+      text = e ∙ ap (λ t. t ++ line (total_words report.totals) ++ line (codes "end")) whole.text_is ∙ ap (λ t. blocks library.cells whole.comparisons ++ line (total_words t) ++ line (codes "end")) whole.totals_are;
+      totals = whole.totals_are;
+    }
+
+-- three counts after their words, and LF
+pub three_counts : (old one two three four a e b d r f : List ℕ) → one ≡ old ++ a ++ e → two ≡ one ++ b ++ d → three ≡ two ++ r ++ f → four ≡ three ++ 10 ∷ []
+    → four ≡ old ++ (a ++ e ++ b ++ d ++ r ++ f ++ 10 ∷ [])
+three_counts old one two three four a e b d r f p q s t = rw (t, s, q, p) (simp append_assoc)
