@@ -1,6 +1,7 @@
 pub mod Settling
 pub mod Sorting
 pub mod Loops
+pub mod Waiting
 pub mod Moving
 pub mod Counting
 pub mod Reaching
