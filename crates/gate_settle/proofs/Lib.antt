@@ -3,7 +3,9 @@ pub mod Sorting
 pub mod Loops
 pub mod Waiting
 pub mod Moving
+pub mod Search
+pub mod Path
+pub mod Feeding
 pub mod Counting
-pub mod Reaching
 pub mod Joining
 pub mod Monotony

@@ -5,5 +5,5 @@ pub mod Network
 pub mod Claims
 pub mod Reach
 pub mod Waiting
-pub mod Marking
+pub mod Search
 pub mod Connecting

@@ -8,6 +8,7 @@ ghost use Rattle.gate_settle.specs.Reach.{AreWithin};
 ghost use Rattle.gate_settle.specs.Waiting.{AllScanned, IsMissing, gates_in, gates_within, woken, emptied};
 
 use crate::gate::{Gate, Operand};
+use crate::rows::empty_rows;
 use std::alloc::Global;
 use text_scan::NoMemory;
 
@@ -79,17 +80,6 @@ fn at_first_input(alloc: Global, mut gates: Vec<Gate>) -> Result<Vec<Waiter>, No
         fresh.push(Waiter { gate, input: 0 })?;
     }
     Ok(fresh)
-}
-
-/// A row without gates for each net.
-fn no_rows(alloc: Global, nets: usize) -> Result<Vec<Vec<Waiter>>, NoMemory>
-    ensures { IfOk result (λ rows. map (λ v. v.items) rows.items ≡ replicate nets []) }
-{
-    let mut rows = Vec::new(alloc);
-    for net in 0..nets {
-        rows.push(Vec::new(alloc))?;
-    }
-    Ok(rows)
 }
 
 /// Lets a gate wait for the value of a net.
@@ -167,7 +157,7 @@ pub(crate) fn arrange(alloc: Global, nets: usize, gates: Vec<Gate>) -> Result<Ar
 {
     let mut known = known_at_first(alloc, nets, &gates)?;
     let mut fresh = at_first_input(alloc, gates)?;
-    let mut rows = no_rows(alloc, nets)?;
+    let mut rows = empty_rows(alloc, nets)?;
     let mut sorted = Vec::new(alloc);
     while let Some(waiter) = fresh.pop() {
         let Waiter { gate, input } = waiter;
