@@ -1,6 +1,6 @@
-//! Nets that depend on themselves. The search follows one path of nets and draws each loop that it closes together into one part
-//! of the path (H. N. Gabow, "Path-based depth-first search for strong and biconnected components", Information Processing
-//! Letters 74, 2000).
+//! Nets that depend on themselves. The search follows one path of nets, and draws each loop that it closes together
+//! into one part of the path (H. N. Gabow, "Path-based depth-first search for strong and biconnected components",
+//! Information Processing Letters 74, 2000).
 
 ghost use Rattle.std.specs.Prelude.{◌≡◌, ◌≤◌, ◌<◌, ◌+◌, ◌||◌, ◌++◌, ℕ, [], ◌∷◌, true, false, length, map, slice_index_or, slice_set, IfOk, OnOk, MatchOption};
 ghost use Rattle.gate_settle.specs.declared.reach.Visit.TheVariants.{OnPath};
