@@ -14,16 +14,16 @@ use text_scan::NoMemory;
 
 /// A gate, and the place of an input that it waits for. The inputs before that one are known.
 #[derive(Drop)]
-pub(crate) struct Waiter {
-    pub gate: Gate,
-    pub input: usize,
+struct Waiter {
+    gate: Gate,
+    input: usize,
 }
 
 /// The place of an input whose value isn't known, and its net.
 #[derive(Clone, Copy)]
-pub(crate) struct Missing {
-    pub input: usize,
-    pub net: usize,
+struct Missing {
+    input: usize,
+    net: usize,
 }
 
 /// The input's net, if its value isn't known.

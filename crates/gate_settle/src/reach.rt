@@ -16,7 +16,7 @@ use text_scan::NoMemory;
 
 /// How far the search has come with a net.
 #[derive(Clone, Copy)]
-pub(crate) enum Visit {
+enum Visit {
     New,
     /// On the path. So many nets were met before it.
     OnPath(usize),
@@ -25,13 +25,13 @@ pub(crate) enum Visit {
 
 /// A part of the path: nets of which each depends on each other one.
 #[derive(Drop)]
-pub(crate) struct Part {
+struct Part {
     /// How many nets were met before the first of these.
-    pub first: usize,
-    pub nets: Vec<usize>,
+    first: usize,
+    nets: Vec<usize>,
     /// What they depend on directly and hasn't been looked at.
-    pub ahead: Vec<usize>,
-    pub on_loop: bool,
+    ahead: Vec<usize>,
+    on_loop: bool,
 }
 
 /// How far the search has come with a net. What is no net depends on nothing.
@@ -112,8 +112,8 @@ fn tell(nets: &[usize], on_loop: bool, visits: &mut [Visit])
     }
 }
 
-/// Goes on to one net that the top of the path depends on, or takes the top off the path where there is none left. So many
-/// nets were met, and are met then.
+/// Goes on to one net that the top of the path depends on, or takes the top off the path where there is none left. So
+/// many nets were met, and are met then.
 fn step(
     alloc: Global,
     rows: &[Vec<usize>],
