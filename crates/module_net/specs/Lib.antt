@@ -1,0 +1,6 @@
+pub mod Elements
+pub mod Refusing
+pub mod Naming
+pub mod Outside
+pub mod OutsideIndexes
+pub mod Building
