@@ -4,3 +4,4 @@ pub mod Naming
 pub mod Outside
 pub mod OutsideIndexes
 pub mod Building
+pub mod Meaning
