@@ -11,14 +11,14 @@ use Rattle.gate_settle.specs.declared.gate.Given.{Given}
 use Rattle.gate_settle.specs.declared.gate.Gate.{Gate}
 use Rattle.gate_settle.specs.Gates.{value_at, is_driven}
 use Rattle.gate_settle.specs.Settled.{AreGatesSettled, AreStatesMoved}
-use Rattle.gate_settle.specs.Network.{given_value, given_values, IsSettled, IsMoveOf}
+use Rattle.gate_settle.specs.Network.{given_value, given_values, IsSettled, IsMoveOf, HasOneSettled}
 use Rattle.name_index.specs.Places.{place_of, is_known}
 use Rattle.name_index.proofs.Places.{known_by_place}
 use Rattle.module_net.specs.Naming.{nets_of, names_in, or_zero, place_in}
 use Rattle.module_net.specs.Elements.{used_in, tables_of}
 use Rattle.module_net.specs.Outside.{given_of}
 use Rattle.module_net.specs.Building.{NamedNetwork, IsNetOf, gates_of}
-use Rattle.module_net.specs.Meaning.{is_output, IsSettledModule, IsModuleMove}
+use Rattle.module_net.specs.Meaning.{is_output, IsSettledModule, HasOneSettledModule, IsModuleMove}
 use Rattle.module_net.proofs.Built.{module_known}
 use Rattle.module_net.proofs.Named.{stands, first_place}
 use Rattle.module_net.proofs.Arranged.{same_driven, settled_same, moved_same}
@@ -35,7 +35,7 @@ past [] k h = refl
 past (v ∷ values) zero h = absurd (omega arith)
 past (v ∷ values) (suc k) h = past values k (omega arith)
 
-name_at : (names : List (List ℕ)) (k : ℕ) → k < length names → (n : List ℕ) × (slice_get names k ≡ Some n)
+pub name_at : (names : List (List ℕ)) (k : ℕ) → k < length names → (n : List ℕ) × (slice_get names k ≡ Some n)
 name_at [] k h = absurd (omega arith)
 name_at (n ∷ names) zero h = (n, refl)
 name_at (n ∷ names) (suc k) h = name_at names k (omega arith)
@@ -98,6 +98,11 @@ module _ (m : Module) (tables : List Table) (inputs : List (List ℕ)) (supplies
 
   pub settled_agrees : (pins states nets : List Tern) → IsSettled net.network pins states nets ↔ IsSettledModule m tables inputs supplies pins states nets
   settled_agrees pins states nets = (to_module pins states nets, from_module pins states nets)
+
+  pub one_agrees : HasOneSettled net.network → HasOneSettledModule m tables inputs supplies
+  one_agrees one pins states =
+      let found = one pins states in
+      (found.0, to_module pins states found.0 found.1, λ others h. found.2 others (from_module pins states others h))
 
   move_to_module : (pins old_nets old_states nets states : List Tern) → IsMoveOf net.network pins old_nets old_states nets states → IsModuleMove m tables inputs supplies pins old_nets old_states nets states
   move_to_module pins old_nets old_states nets states s = record {

@@ -74,7 +74,7 @@ known_parts nets (x ∷ xs) ys h = let r = known_parts nets xs ys h.1 in ((h.0, 
 pub module_known : (m : Module) → AllKnown (nets_of m) (flat_map element_names m.elements)
 module_known m = (known_parts (nets_of m) (map (λ p. p.name) m.ports ++ map (λ s. s.0) m.supplies) (flat_map element_names m.elements) (all_known [] (names_in m))).1
 
-place_below : (nets : List (List ℕ)) (n : List ℕ) → is_known n nets ≡ true → place_in nets n < length nets
+pub place_below : (nets : List (List ℕ)) (n : List ℕ) → is_known n nets ≡ true → place_in nets n < length nets
 place_below nets n h = go (place_of nets n) refl (known_by_place nets n ∙ h)
   where
     go : (o : Option ℕ) → place_of nets n ≡ o → is_some o ≡ true → or_zero o < length nets

@@ -237,7 +237,7 @@ module _ (tables : List Table) (used names : List (List ℕ)) (found : AreFound 
 
 -- ---- nets that nothing drives
 
-terminals_of : (names : List (List ℕ)) (name : List ℕ) (count : ℕ) (ts : List Terminal) → AllKnown names (flat_map terminal_names ts) → is_known name names ≡ true
+pub terminals_of : (names : List (List ℕ)) (name : List ℕ) (count : ℕ) (ts : List Terminal) → AllKnown names (flat_map terminal_names ts) → is_known name names ≡ true
     → is_among (flat_map (driven names) (take count ts)) (place_in names name) ≡ list_any (is_of name) (take count ts)
 terminals_of names name zero ts known k = refl
 terminals_of names name (suc count) [] known k = refl

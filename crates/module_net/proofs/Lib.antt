@@ -5,3 +5,4 @@ pub mod Named
 pub mod Arranged
 pub mod Giving
 pub mod Agreeing
+pub mod Refusals

@@ -5,3 +5,4 @@ pub mod Outside
 pub mod OutsideIndexes
 pub mod Building
 pub mod Meaning
+pub mod Driving

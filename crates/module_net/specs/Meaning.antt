@@ -70,6 +70,11 @@ pub record IsSettledModule (m : Module) (tables : List Table) (inputs : List (Li
   pub others : (name : List ℕ) → is_known name (nets_of m) ≡ true → is_output name m.elements ≡ false
       → value_named (nets_of m) nets name ≡ given_value pins (given_of m inputs supplies name)
 
+-- for given pins and states a module has just one settled assignment
+abbrev pub HasOneSettledModule : Module → List Table → List (List ℕ) → List (List ℕ × Tern) → Type 0
+HasOneSettledModule m tables inputs supplies = (pins states : List Tern) → (nets : List Tern) × IsSettledModule m tables inputs supplies pins states nets
+    × ((others : List Tern) → IsSettledModule m tables inputs supplies pins states others → others ≡ nets)
+
 -- ---- moves
 
 -- what a sequential primitive's state becomes, in whichever order its inputs change
