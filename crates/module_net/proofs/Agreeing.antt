@@ -18,10 +18,11 @@ use Rattle.module_net.specs.Naming.{nets_of, names_in, or_zero, place_in}
 use Rattle.module_net.specs.Elements.{used_in, tables_of}
 use Rattle.module_net.specs.Outside.{given_of}
 use Rattle.module_net.specs.Building.{NamedNetwork, IsNetOf, gates_of}
-use Rattle.module_net.specs.Meaning.{is_output, IsSettledModule, HasOneSettledModule, IsModuleMove}
+use Rattle.module_net.specs.Meaning.{is_output, IsSettledModule, HasOneSettledModule, IsModuleMove, HasOneModuleMove}
 use Rattle.module_net.proofs.Built.{module_known}
 use Rattle.module_net.proofs.Named.{stands, first_place}
 use Rattle.module_net.proofs.Arranged.{same_driven, settled_same, moved_same}
+use Rattle.module_net.proofs.Moves.{one_move}
 use Rattle.module_net.proofs.Giving.{found_used, used_known, elements_give, give_elements, states_move, move_states, driven_named}
 
 -- the value of what stands at a place
@@ -124,3 +125,8 @@ module _ (m : Module) (tables : List Table) (inputs : List (List ℕ)) (supplies
 
   pub moved_agrees : (pins old_nets old_states nets states : List Tern) → IsMoveOf net.network pins old_nets old_states nets states ↔ IsModuleMove m tables inputs supplies pins old_nets old_states nets states
   moved_agrees pins old_nets old_states nets states = (move_to_module pins old_nets old_states nets states, move_from_module pins old_nets old_states nets states)
+
+  pub one_move_agrees : (pins old_nets old_states : List Tern) → length old_states ≡ length net.network.state_nets → HasOneModuleMove m tables inputs supplies pins old_nets old_states
+  one_move_agrees pins old_nets old_states count nets states others other_states one two =
+      one_move m tables inputs supplies net is pins old_nets old_states count nets states others other_states
+      (move_from_module pins old_nets old_states nets states one) (move_from_module pins old_nets old_states others other_states two)

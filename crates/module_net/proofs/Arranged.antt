@@ -71,7 +71,7 @@ is_same One One = true
 is_same Unknown Unknown = true
 is_same a b = false
 
-same_value : (a b : Tern) → is_same a b ≡ true → a ≡ b
+pub same_value : (a b : Tern) → is_same a b ≡ true → a ≡ b
 same_value Zero Zero h = refl
 same_value One One h = refl
 same_value Unknown Unknown h = refl
@@ -87,7 +87,7 @@ same_self Zero = refl
 same_self One = refl
 same_self Unknown = refl
 
-same_by : (a b : Tern) → a ≡ b → is_same a b ≡ true
+pub same_by : (a b : Tern) → a ≡ b → is_same a b ≡ true
 same_by a b e = subst (λ z. is_same a z ≡ true) e (same_self a)
 
 pub either : (a b : Bool) → (a || b) ≡ true → (a ≡ true) ⊎ (b ≡ true)
@@ -98,7 +98,7 @@ pub both : (a b : Bool) → (a && b) ≡ true → (a ≡ true) × (b ≡ true)
 both true b h = (refl, h)
 both false b h = absurd cc
 
-and_true : (a b : Bool) → a ≡ true → b ≡ true → (a && b) ≡ true
+pub and_true : (a b : Bool) → a ≡ true → b ≡ true → (a && b) ≡ true
 and_true true b h k = k
 and_true false b h k = absurd cc
 

@@ -6,3 +6,5 @@ pub mod Arranged
 pub mod Giving
 pub mod Agreeing
 pub mod Refusals
+pub mod Rounds
+pub mod Moves

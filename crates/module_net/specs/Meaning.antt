@@ -99,3 +99,9 @@ pub record IsModuleMove (m : Module) (tables : List Table) (inputs : List (List 
   pub settled : IsSettledModule m tables inputs supplies pins new_states new_nets
   pub states : StatesMove tables (nets_of m) old_nets old_states new_nets new_states 0 m.elements
   pub count : length new_states ≡ length old_states
+
+-- two moves of a module from the same nets and states to the same pins are one
+abbrev pub HasOneModuleMove : Module → List Table → List (List ℕ) → List (List ℕ × Tern) → List Tern → List Tern → List Tern → Type 0
+HasOneModuleMove m tables inputs supplies pins old_nets old_states = (nets states others other_states : List Tern)
+    → IsModuleMove m tables inputs supplies pins old_nets old_states nets states → IsModuleMove m tables inputs supplies pins old_nets old_states others other_states
+    → (nets ≡ others) × (states ≡ other_states)
