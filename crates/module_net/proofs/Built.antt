@@ -58,7 +58,7 @@ known_itself n ns = or_left _ _ ((bytes_decides n n).1 refl)
 known_last : (n : List ℕ) (xs ys : List (List ℕ)) → is_known n (xs ++ n ∷ ys) ≡ true
 known_last n xs ys = list_any-append (bytes_eq n) xs (n ∷ ys) ∙ or_right _ _ (known_itself n ys)
 
-all_known : (known names : List (List ℕ)) → AllKnown (known ++ firsts known names) names
+pub all_known : (known names : List (List ℕ)) → AllKnown (known ++ firsts known names) names
 all_known known [] = tt
 all_known known (n ∷ names) = go (is_known n known) refl (all_known known names) (all_known (known ++ n ∷ []) names)
   where
@@ -67,14 +67,14 @@ all_known known (n ∷ names) = go (is_known n known) refl (all_known known name
     go true e same more = (known_front n known _ e, same)
     go false e same more = (known_last n known _, subst (λ z. AllKnown z names) (append_assoc known (n ∷ []) (firsts (known ++ n ∷ []) names)) more)
 
-known_parts : (nets xs ys : List (List ℕ)) → AllKnown nets (xs ++ ys) → AllKnown nets xs × AllKnown nets ys
+pub known_parts : (nets xs ys : List (List ℕ)) → AllKnown nets (xs ++ ys) → AllKnown nets xs × AllKnown nets ys
 known_parts nets [] ys h = (tt, h)
 known_parts nets (x ∷ xs) ys h = let r = known_parts nets xs ys h.1 in ((h.0, r.0), r.1)
 
 pub module_known : (m : Module) → AllKnown (nets_of m) (flat_map element_names m.elements)
 module_known m = (known_parts (nets_of m) (map (λ p. p.name) m.ports ++ map (λ s. s.0) m.supplies) (flat_map element_names m.elements) (all_known [] (names_in m))).1
 
-place_below : (nets : List (List ℕ)) (n : List ℕ) → is_known n nets ≡ true → place_in nets n < length nets
+pub place_below : (nets : List (List ℕ)) (n : List ℕ) → is_known n nets ≡ true → place_in nets n < length nets
 place_below nets n h = go (place_of nets n) refl (known_by_place nets n ∙ h)
   where
     go : (o : Option ℕ) → place_of nets n ≡ o → is_some o ≡ true → or_zero o < length nets
@@ -110,7 +110,7 @@ terminals_within nets (suc n) (t ∷ ts) k known h =
       | inr e ↦ terminals_within nets n ts k parts.1 e
     ]
 
-element_known : (nets : List (List ℕ)) (e : Element) → AllKnown nets (element_names e) → AllKnown nets (flat_map terminal_names e.terminals)
+pub element_known : (nets : List (List ℕ)) (e : Element) → AllKnown nets (element_names e) → AllKnown nets (flat_map terminal_names e.terminals)
 unfolding element_names
 element_known nets e h = h
 
@@ -166,7 +166,7 @@ one_net nets [] n h a = absurd (omega arith)
 one_net nets (terminals.Net x ∷ ts) n h a = refl
 one_net nets (terminals.Constant v ∷ ts) n h a = absurd (let f : false ≡ true = a in cc)
 
-counted : (e : Element) (g : Bool) → port_count g e ≡ None → g ≡ true
+pub counted : (e : Element) (g : Bool) → port_count g e ≡ None → g ≡ true
 counted e true h = refl
 counted e false h = absurd cc
 
@@ -182,7 +182,7 @@ one_state_net tables nets e r d h = by_word (gate_word e.kind) r d h
     by_word (Some w) r d h = absurd (let f : false ≡ true = h in cc)
     by_word None r d h = by_table (table_named tables e.kind) r d h
 
-none_first : (r s : Option GateRefusal) → or_else r s ≡ None → (r ≡ None) × (s ≡ None)
+pub none_first : (r s : Option GateRefusal) → or_else r s ≡ None → (r ≡ None) × (s ≡ None)
 none_first None s h = (refl, h)
 none_first (Some r) s h = absurd cc
 

@@ -4,3 +4,5 @@ pub mod Naming
 pub mod Outside
 pub mod OutsideIndexes
 pub mod Building
+pub mod Meaning
+pub mod Driving

@@ -4,6 +4,7 @@
 mod building;
 mod elements;
 mod gates;
+pub mod laws;
 mod name_list;
 mod naming;
 mod net;
