@@ -36,69 +36,98 @@ use Rattle.verilog_reader.proofs.Whole.{Holds, goes_on, measure}
 abbrev is_idle : Look → Bool
 is_idle l = is_specified l && is_unread l
 
-choose : (c : Bool) (x y : Look) → is_idle x ≡ true → is_idle y ≡ true → is_idle (cond c x y) ≡ true
+record IsIdle (l : Look) : Type 0 where
+  idle : is_idle l ≡ true
+
+at_once : (l : Look) → is_idle l ≡ true → IsIdle l
+at_once l e = record { idle = e }
+
+choose : (c : Bool) (x y : Look) → IsIdle x → IsIdle y → IsIdle (cond c x y)
 choose true x y h k = h
 choose false x y h k = k
 
+either : (c : Bool) (x y : Look) → is_idle x ≡ true → IsIdle y → IsIdle (cond c x y)
+either c x y h k = choose c x y (at_once x h) k
+
 -- the second of two, where the test of the first doesn't hold
-second : (c : Bool) (x y : Look) → c ≡ false → is_idle y ≡ true → is_idle (cond c x y) ≡ true
+second : (c : Bool) (x y : Look) → c ≡ false → IsIdle y → IsIdle (cond c x y)
 second true x y e k = absurd cc
 second false x y e k = k
 
 other_word : (w v : List ℕ) → begins_end w ≡ false → begins_end v ≡ true → bytes_eq w v ≡ false
-other_word w v no yes = go (bytes_eq w v) refl
+other_word w v off on = go (bytes_eq w v) refl
   where
     go : (b : Bool) → bytes_eq w v ≡ b → bytes_eq w v ≡ false
     go true e = absurd (let same : begins_end w ≡ begins_end v = ap begins_end ((bytes_eq-Decides w v).0 e) in cc)
     go false e = e
 
-three_idle : (w : List ℕ) → is_idle (three_look w) ≡ true
+three_idle : (w : List ℕ) → IsIdle (three_look w)
 unfolding three_look
-three_idle w = choose _ _ _ refl (choose _ _ _ refl (choose _ _ _ refl refl))
+three_idle w =
+    either (bytes_eq w (codes "and") || bytes_eq w (codes "nor") || bytes_eq w (codes "xor")) looks.Gate _ refl (
+    either (bytes_eq w (codes "not") || bytes_eq w (codes "buf")) looks.Buffer _ refl (
+    either (bytes_eq w (codes "reg")) looks.Reg _ refl (at_once looks.Name refl)))
 
-four_idle : (w : List ℕ) → is_idle (four_look w) ≡ true
+four_idle : (w : List ℕ) → IsIdle (four_look w)
 unfolding four_look
-four_idle w = choose _ _ _ refl (choose _ _ _ refl refl)
+four_idle w =
+    either (bytes_eq w (codes "nand") || bytes_eq w (codes "xnor")) looks.Gate _ refl (
+    either (bytes_eq w (codes "wire")) looks.Wire _ refl (at_once looks.Name refl))
 
-five_idle : (w : List ℕ) → is_idle (five_look w) ≡ true
+five_idle : (w : List ℕ) → IsIdle (five_look w)
 unfolding five_look
-five_idle w = choose _ _ _ refl (choose _ _ _ refl (choose _ _ _ refl refl))
+five_idle w =
+    either (bytes_eq w (codes "input")) looks.Input _ refl (
+    either (bytes_eq w (codes "inout")) looks.Inout _ refl (
+    either (bytes_eq w (codes "table")) looks.Table _ refl (at_once looks.Name refl)))
 
-six_idle : (w : List ℕ) → is_idle (six_look w) ≡ true
+six_idle : (w : List ℕ) → IsIdle (six_look w)
 unfolding six_look
-six_idle w = choose _ _ _ refl (choose _ _ _ refl refl)
+six_idle w =
+    either (bytes_eq w (codes "output")) looks.Output _ refl (
+    either (bytes_eq w (codes "module")) looks.Module _ refl (at_once looks.Name refl))
 
-seven_idle : (w : List ℕ) → is_idle (seven_look w) ≡ true
+seven_idle : (w : List ℕ) → IsIdle (seven_look w)
 unfolding seven_look
-seven_idle w = choose _ _ _ refl (choose _ _ _ refl (choose _ _ _ refl (choose _ _ _ refl refl)))
+seven_idle w =
+    either (bytes_eq w (codes "supply0")) looks.Supply0 _ refl (
+    either (bytes_eq w (codes "supply1")) looks.Supply1 _ refl (
+    either (bytes_eq w (codes "specify")) looks.Specify _ refl (
+    either (bytes_eq w (codes "initial")) looks.Initial _ refl (at_once looks.Name refl))))
 
-long_idle : (w : List ℕ) → begins_end w ≡ false → is_idle (long_look w) ≡ true
+long_idle : (w : List ℕ) → begins_end w ≡ false → IsIdle (long_look w)
 unfolding long_look begins_end begins_with_pair begins_with
-long_idle w no =
-    choose _ _ _ refl
-    (second _ _ _ (other_word w (codes "endmodule") no refl)
-    (choose _ _ _ refl
-    (second _ _ _ (other_word w (codes "endspecify") no refl)
-    (second _ _ _ (other_word w (codes "endprimitive") no refl) refl))))
+long_idle w off =
+    either (bytes_eq w (codes "endtable")) looks.EndTable _ refl
+    (second (bytes_eq w (codes "endmodule")) looks.EndModule _ (other_word w (codes "endmodule") off refl)
+    (either (bytes_eq w (codes "primitive")) looks.Primitive _ refl
+    (second (bytes_eq w (codes "endspecify")) looks.EndSpecify _ (other_word w (codes "endspecify") off refl)
+    (second (bytes_eq w (codes "endprimitive")) looks.EndPrimitive looks.Name (other_word w (codes "endprimitive") off refl) (at_once looks.Name refl)))))
 
-identifier_idle : (w : List ℕ) → begins_end w ≡ false → is_idle (identifier_look w) ≡ true
-unfolding identifier_look longer_look
-identifier_idle w no =
-    choose _ _ _ (choose _ _ _ refl refl)
-    (choose _ _ _ (three_idle w)
-    (choose _ _ _ (four_idle w)
-    (choose _ _ _ (five_idle w)
-    (choose _ _ _ (six_idle w)
-    (choose _ _ _ (seven_idle w) (long_idle w no))))))
+longer_idle : (w : List ℕ) → begins_end w ≡ false → IsIdle (longer_look w)
+unfolding longer_look
+longer_idle w off = choose (length w == 6) (six_look w) _ (six_idle w) (choose (length w == 7) (seven_look w) (long_look w) (seven_idle w) (long_idle w off))
 
-number_idle : (w : List ℕ) → is_idle (number_look w) ≡ true
+identifier_idle : (w : List ℕ) → begins_end w ≡ false → IsIdle (identifier_look w)
+unfolding identifier_look
+identifier_idle w off =
+    choose (length w == 2) _ _ (either (bytes_eq w (codes "or")) looks.Gate looks.Name refl (at_once looks.Name refl))
+    (choose (length w == 3) (three_look w) _ (three_idle w)
+    (choose (length w == 4) (four_look w) _ (four_idle w)
+    (choose (length w == 5) (five_look w) (longer_look w) (five_idle w) (longer_idle w off))))
+
+number_idle : (w : List ℕ) → IsIdle (number_look w)
 unfolding number_look
-number_idle w = choose _ _ _ refl (choose _ _ _ refl refl)
+number_idle w =
+    either (bytes_eq w (codes "1'b0") || bytes_eq w (codes "1'B0")) looks.Zero _ refl
+    (either (bytes_eq w (codes "1'b1") || bytes_eq w (codes "1'B1")) looks.One looks.Number refl (at_once looks.Number refl))
 
-word_idle : (w : List ℕ) → begins_end w ≡ false → is_idle (word_look w) ≡ true
+word_idle : (w : List ℕ) → begins_end w ≡ false → IsIdle (word_look w)
 unfolding word_look
-word_idle [] no = refl
-word_idle (b ∷ bs) no = choose _ _ _ refl (choose _ _ _ (number_idle (b ∷ bs)) (identifier_idle (b ∷ bs) no))
+word_idle [] off = at_once looks.Number refl
+word_idle (b ∷ bs) off =
+    either (b == 92) looks.Name _ refl
+    (choose (is_number_byte b) (number_look (b ∷ bs)) (identifier_look (b ∷ bs)) (number_idle (b ∷ bs)) (identifier_idle (b ∷ bs) off))
 
 and_parts : (a b : Bool) → (a && b) ≡ true → (a ≡ true) × (b ≡ true)
 and_parts true b e = (refl, e)
@@ -108,13 +137,22 @@ not_true : (b : Bool) → not b ≡ true → b ≡ false
 not_true true e = absurd cc
 not_true false e = refl
 
-first : (c : Bool) (x y : Look) → c ≡ true → is_idle x ≡ true → is_idle (cond c x y) ≡ true
-first true x y e h = h
+first : (c : Bool) (x y : Look) → c ≡ true → is_idle x ≡ true → IsIdle (cond c x y)
+first true x y e h = at_once x h
 first false x y e h = absurd cc
 
-sign_idle : (b : ℕ) → (nat_le 33 b && nat_le b 126) ≡ true → is_idle (sign_look b) ≡ true
-unfolding sign_look other_look
-sign_idle b on = choose _ _ _ refl (choose _ _ _ refl (choose _ _ _ refl (choose _ _ _ refl (choose _ _ _ refl (first _ _ _ on refl)))))
+other_idle : (b : ℕ) → (nat_le 33 b && nat_le b 126) ≡ true → IsIdle (other_look b)
+unfolding other_look
+other_idle b on = first (nat_le 33 b && nat_le b 126) looks.Other looks.Barred on refl
+
+sign_idle : (b : ℕ) → (nat_le 33 b && nat_le b 126) ≡ true → IsIdle (sign_look b)
+unfolding sign_look
+sign_idle b on =
+    either (b == 40) looks.Open _ refl
+    (either (b == 41) looks.Close _ refl
+    (either (b == 44) looks.Comma _ refl
+    (either (b == 59) looks.Semicolon _ refl
+    (either (b == 35) looks.Hash (other_look b) refl (other_idle b on)))))
 
 -- a filler is idle, and isn't the end
 record Idles (source : List ℕ) (t : Token) : Type 0 where
@@ -126,12 +164,12 @@ unfolding is_filler look_of text
 idle source t on = go t.kind refl on
   where
     go : (k : Kind) → t.kind ≡ k → is_filler_text k (token_text source t) ≡ true → Idles source t
-    go kinds.Word e f = record { looks = rw e (word_idle (token_text source t) (not_true _ f)); shut = ap is_end e }
+    go kinds.Word e f = record { looks = rw e (word_idle (token_text source t) (not_true _ f)).idle; shut = ap is_end e }
     go kinds.Sign e f = record { looks = rw e (sign (token_text source t) f); shut = ap is_end e }
       where
         sign : (w : List ℕ) → (is_sign w && not (bytes_eq w (codes "`"))) ≡ true → is_idle (sign_of w) ≡ true
         sign [] f = absurd cc
-        sign (b ∷ bs) f = sign_idle b (and_parts _ _ f).0
+        sign (b ∷ bs) f = (sign_idle b (and_parts _ _ f).0).idle
     go kinds.Str e f = absurd cc
     go kinds.Unfinished e f = absurd cc
     go kinds.LineEnd e f = absurd cc
@@ -158,7 +196,7 @@ module_stays : (source : List ℕ) (limits : Limits) (t : Left) (m : FileReader)
 unfolding modules.taken perform
 module_stays source limits t m e i =
     let move : modules.module_move m.module_reader.phase t.token.span.line (look_of source t) ≡ modules.keep module_phases.Specify
-        = ap (λ z. modules.module_move z t.token.span.line (look_of source t)) e ∙ specify_stays t.token.span.line (look_of source t) i in
+    = ap (λ z. modules.module_move z t.token.span.line (look_of source t)) e ∙ specify_stays t.token.span.line (look_of source t) i in
     ap (λ z. in_module source limits t m (modules.led source limits t m.module_reader z)) move
     ∙ ap (λ z. let r : ModuleReader = record { phase = z; text = m.module_reader.text } in let q : FileReader = record m { module_reader = r } in Ok q) (sym e)
 
@@ -190,7 +228,7 @@ module _ (source : List ℕ) (limits : Limits) where
       all_passed m ts us on parts.1 (one_passed m t (map (item Plain) ts ++ us) on parts.0 h)
 
   -- what was passed over changes nothing
-  pub skimmed_holds : (m : FileReader) (ts us : List Left) → Holds source limits m ts → IsSkimmed source m ts us → Holds source limits m us
+  skimmed_holds : (m : FileReader) (ts us : List Left) → Holds source limits m ts → IsSkimmed source m ts us → Holds source limits m us
   skimmed_holds m ts us h is = go (passes_over m.phase m.module_reader.phase) refl
     where
       here : Holds source limits m (map (item Plain) is.fillers ++ us)
@@ -200,9 +238,12 @@ module _ (source : List ℕ) (limits : Limits) where
       go true on = all_passed m is.fillers us on is.all here
       go false off = let P : List Token → Type 0 = λ z. Holds source limits m (map (item Plain) z ++ us) in subst P (is.idle off) here
 
+  pub skimmed_at : (text : List ℕ) (m : FileReader) (ts us : List Left) → text ≡ source → Holds source limits m ts → IsSkimmed text m ts us → Holds source limits m us
+  skimmed_at text m ts us e h is = skimmed_holds m ts us h (let P : List ℕ → Type 0 = λ z. IsSkimmed z m ts us in subst P e is)
+
   -- and brings no more items
-  pub skimmed_measure : (m : FileReader) (ts us : List Left) → IsSkimmed source m ts us → measure source limits m.phase us ≤ measure source limits m.phase ts
-  skimmed_measure m ts us is = go (is_done m.phase)
+  pub skimmed_measure : (text : List ℕ) (m : FileReader) (ts us : List Left) → IsSkimmed text m ts us → measure source limits m.phase us ≤ measure source limits m.phase ts
+  skimmed_measure text m ts us is = go (is_done m.phase)
     where
       fewer : length us ≤ length ts
       fewer = let count = ap length is.front ∙ length-append (map (item Plain) is.fillers) us in omega arith

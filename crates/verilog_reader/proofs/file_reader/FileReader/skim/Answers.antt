@@ -1,5 +1,4 @@
 use Rattle.std.proofs.Common.{sym, refl, [], ◌∙◌}
-use Rattle.verilog_reader.proofs.Fillers.{skimmed_holds}
 use Rattle.verilog_reader.proofs.file_reader.FileReader.skim.Goals as goal
 
 pub returns-then-passes_over-clause-skimmed : goal.returns-then-passes_over-clause-skimmed
