@@ -67,12 +67,12 @@ module _ (source : List ℕ) (line : ℕ) (ts : List Token) (p q : Place) (so_fa
   goes_to : (us : List Token) → tokens_at Verilog source p ≡ us → Skims source line ts us
   goes_to us e = subst (Skims source line ts) e so_far
 
-  pub after_blank : (n : ℕ) → IsBlank (take (length source - p.at) (drop p.at source)) n → q ≡ forward n p → Skims source line ts (tokens_at Verilog source q)
+  after_blank : (n : ℕ) → IsBlank (take (length source - p.at) (drop p.at source)) n → q ≡ forward n p → Skims source line ts (tokens_at Verilog source q)
   after_blank n is e =
       let goes = is.goes p in
       goes_to _ (here ∙ goes ∙ ap (λ z. tokens Verilog z 0 (drop n (take (length source - p.at) (drop p.at source)))) (sym e) ∙ there n (ap (λ z. z.at) e))
 
-  pub after_line : IsLineEnd (take (length source - p.at) (drop p.at source)) → q ≡ line_after 1 p → Skims source line ts (tokens_at Verilog source q)
+  after_line : IsLineEnd (take (length source - p.at) (drop p.at source)) → q ≡ line_after 1 p → Skims source line ts (tokens_at Verilog source q)
   after_line is e =
       let goes = is.goes p in
       goes_to _ (here ∙ goes ∙ ap (λ z. tokens Verilog z 0 (drop 1 (take (length source - p.at) (drop p.at source)))) (sym e) ∙ there 1 (ap (λ z. z.at) e))
@@ -85,10 +85,47 @@ module _ (source : List ℕ) (line : ℕ) (ts : List Token) (p q : Place) (so_fa
       (ap (λ z. is_filler_text kind (take z (drop p.at source))) many ∙ ap (λ z. is_filler_text kind (take n z)) (sym (take_rest source p.at)) ∙ is)
       (other_line p.line line off)
 
-  pub after_token : (n : ℕ) → IsToken (take (length source - p.at) (drop p.at source)) n → (p.line ≡ line → ⊥) → q ≡ forward n p → Skims source line ts (tokens_at Verilog source q)
+  after_token : (n : ℕ) → IsToken (take (length source - p.at) (drop p.at source)) n → (p.line ≡ line → ⊥) → q ≡ forward n p → Skims source line ts (tokens_at Verilog source q)
   after_token n is off e =
       let goes = is.goes p in
       let kind = is.kind in
       one_more source line (token kind p (p.at + n)) ts _ _ (goes_to _ (here ∙ goes))
       (ap (λ z. token kind p (p.at + n) ∷ z) (ap (λ z. tokens Verilog z 0 (drop n (take (length source - p.at) (drop p.at source)))) (sym e) ∙ there n (ap (λ z. z.at) e)))
       (filler kind n is.filler off)
+
+-- ---- places on the line where the reader has begun
+
+same_place : (a b l c d : ℕ) → a ≡ b → c ≡ d → (let p : Place = record { at = a; line = l; column = c } in p) ≡ record { at = b; line = l; column = d }
+same_place a b l c d e f = cc
+
+forward_more : (p : Place) (m n to : ℕ) → p.at ≤ m → to ≡ m + n → forward (to - p.at) p ≡ forward n (forward (m - p.at) p)
+forward_more p m n to le e = same_place _ _ p.line _ _ (omega arith) (omega arith)
+
+forward_here : (p : Place) (at : ℕ) → p.at ≤ at → (forward (at - p.at) p).at ≡ at
+forward_here p at le = omega arith
+
+pub begins_here : (p : Place) → p.column ≤ 4294967295 → forward (p.at - p.at) p ≡ p
+begins_here p le = same_place _ _ p.line _ _ (omega arith) (omega arith)
+
+module _ (source : List ℕ) (line : ℕ) (ts : List Token) (begun : Place) (at : ℕ) (le : begun.at ≤ at) (so_far : Skims source line ts (tokens_at Verilog source (forward (at - begun.at) begun))) where
+  abbrev here_at : Place
+  here_at = forward (at - begun.at) begun
+
+  -- the same bytes, by the place
+  rest : take (length source - at) (drop at source) ≡ take (length source - here_at.at) (drop here_at.at source)
+  rest = ap (λ z. take (length source - z) (drop z source)) (sym (forward_here begun at le))
+
+  pub on_blank : (n to : ℕ) → IsBlank (take (length source - at) (drop at source)) n → to ≡ at + n → Skims source line ts (tokens_at Verilog source (forward (to - begun.at) begun))
+  on_blank n to is e =
+      let P : List ℕ → Type 0 = λ z. IsBlank z n in
+      after_blank source line ts here_at (forward (to - begun.at) begun) so_far n (subst P rest is) (forward_more begun at n to le e)
+
+  pub on_token : (n to : ℕ) → IsToken (take (length source - at) (drop at source)) n → (begun.line ≡ line → ⊥) → to ≡ at + n → Skims source line ts (tokens_at Verilog source (forward (to - begun.at) begun))
+  on_token n to is off e =
+      let P : List ℕ → Type 0 = λ z. IsToken z n in
+      after_token source line ts here_at (forward (to - begun.at) begun) so_far n (subst P rest is) off (forward_more begun at n to le e)
+
+  pub on_line : (p q : Place) → IsLineEnd (take (length source - at) (drop at source)) → p ≡ here_at → q ≡ line_after 1 p → Skims source line ts (tokens_at Verilog source q)
+  on_line p q is e f =
+      let P : List ℕ → Type 0 = λ z. IsLineEnd z in
+      after_line source line ts here_at q so_far (subst P rest is) (f ∙ ap (line_after 1) e)

@@ -83,12 +83,12 @@ number b bs text n e off on many =
 
 -- ---- signs
 
-sign_goes : (b : ℕ) (bs : List ℕ) → is_letter b ≡ false → is_digit b ≡ false → (b == 47) ≡ false → is_plain_sign b ≡ true → (p : Place)
+sign_goes : (b : ℕ) (bs : List ℕ) → is_letter b ≡ false → is_digit b ≡ false → is_plain_sign b ≡ true → (p : Place)
     → tokens Verilog p 0 (b ∷ bs) ≡ token Sign p (p.at + 1) ∷ tokens Verilog (forward 1 p) 0 bs
 unfolding tokens before piece verilog_piece is_space begins_with_pair begins_with over
-sign_goes b bs no_letter no_digit no_slash on p =
+sign_goes b bs no_letter no_digit on p =
     let at : (c : ℕ) → is_plain_sign c ≡ false → (b == c) ≡ false = λ c no. apart is_plain_sign c b no on in
-    rw (at 32 refl, at 9 refl, at 13 refl, at 10 refl, at 34 refl, no_slash, at 92 refl, no_letter, no_digit) refl
+    rw (at 32 refl, at 9 refl, at 13 refl, at 10 refl, at 34 refl, at 47 refl, at 92 refl, no_letter, no_digit) refl
 
 sign_parts : (a b : Bool) → (a && b) ≡ true → (a ≡ true) × (b ≡ true)
 sign_parts true b e = (refl, e)
@@ -99,22 +99,15 @@ sign_text b on =
     let parts = sign_parts (nat_le 33 b && nat_le b 126) _ on in
     rw (parts.0, apart is_plain_sign 96 b refl on) refl
 
-other_than : (b c : ℕ) → (b ≡ c → ⊥) → (b == c) ≡ false
-other_than b c off = go (b == c) refl
-  where
-    go : (g : Bool) → (b == c) ≡ g → (b == c) ≡ false
-    go true e = absurd (off (eqb-true b c e))
-    go false e = e
-
-pub sign : (b : ℕ) (bs text : List ℕ) → text ≡ b ∷ bs → is_letter b ≡ false → is_digit b ≡ false → (b ≡ 47 → ⊥) → is_plain_sign b ≡ true → IsToken text 1
-sign b bs text e no_letter no_digit no_slash on =
+pub sign : (b : ℕ) (bs text : List ℕ) → text ≡ b ∷ bs → is_letter b ≡ false → is_digit b ≡ false → is_plain_sign b ≡ true → IsToken text 1
+sign b bs text e no_letter no_digit on =
     let P : List ℕ → Type 0 = λ z. IsToken z 1 in
     subst P (sym e) (record {
       kind = Sign;
       some = omega arith;
       within = omega arith;
       filler = sign_text b on;
-      goes = sign_goes b bs no_letter no_digit (other_than b 47 no_slash) on;
+      goes = sign_goes b bs no_letter no_digit on;
     })
 
 slash_goes : (bs : List ℕ) → begins_with 42 bs ≡ false → begins_with 47 bs ≡ false → (p : Place) → tokens Verilog p 0 (47 ∷ bs) ≡ token Sign p (p.at + 1) ∷ tokens Verilog (forward 1 p) 0 bs
@@ -169,6 +162,10 @@ pub blank : (b : ℕ) (bs text : List ℕ) → text ≡ b ∷ bs → is_blank b 
 blank b bs text e on =
     let P : List ℕ → Type 0 = λ z. IsBlank z 1 in
     subst P (sym e) (record { some = omega arith; within = omega arith; goes = blank_goes b bs (blank_line b on) (blank_space b on) })
+
+pub space : (b : ℕ) (bs text : List ℕ) → text ≡ b ∷ bs → b ≡ 32 → IsBlank text 1
+unfolding is_blank
+space b bs text e is = blank b bs text e (rw is refl)
 
 line_goes : (bs : List ℕ) (p : Place) → tokens Verilog p 0 (10 ∷ bs) ≡ tokens Verilog (line_after 1 p) 0 bs
 unfolding tokens before piece verilog_piece is_space over

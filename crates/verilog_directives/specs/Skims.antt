@@ -60,9 +60,9 @@ pub record IsToken (text : List ℕ) (n : ℕ) : Type 0 where
   pub filler : is_filler_text kind (take n text) ≡ true
   pub goes : (p : Place) → tokens Verilog p 0 text ≡ token kind p (p.at + n) ∷ tokens Verilog (forward n p) 0 (drop n text)
 
--- a sign that begins no comment, string or directive; a \ begins a word
+-- a sign that can begin no comment, string or directive; a \ begins a word
 abbrev pub is_plain_sign : ℕ → Bool
-is_plain_sign b = (nat_le 33 b && nat_le b 126) && (not (b == 34) && (not (b == 92) && not (b == 96)))
+is_plain_sign b = (nat_le 33 b && nat_le b 126) && (not (b == 34) && (not (b == 47) && (not (b == 92) && not (b == 96))))
 
 -- the text begins so
 abbrev pub Begins : List ℕ → Skim → Type 0

@@ -36,11 +36,11 @@ fn begins_end(word: &[u8]) -> bool
     }
 }
 
-// A sign that begins no comment, string or directive. The `\` begins a word.
+// A sign that can begin no comment, string or directive. The `\` begins a word.
 fn is_plain_sign(byte: u8) -> bool
     ensures { result ≡ spec.is_plain_sign byte }
 {
-    33 <= byte && byte <= 126 && byte != b'"' && byte != b'\\' && byte != b'`'
+    33 <= byte && byte <= 126 && byte != b'"' && byte != b'/' && byte != b'\\' && byte != b'`'
 }
 
 // An identifier.
@@ -83,37 +83,38 @@ fn skim_slash(rest: &[u8], text: &[u8]) -> Skim
     }
 }
 
-fn skim_other(byte: u8, rest: &[u8], text: &[u8]) -> Skim
+// What is no letter, digit or plain sign.
+fn skim_rare(byte: u8, rest: &[u8], text: &[u8]) -> Skim
     requires text { text.now ≡ byte ∷ rest.now }
-    requires no_letter { bytes.is_letter byte ≡ false }
-    requires no_digit { bytes.is_digit byte ≡ false }
-    requires no_slash { byte ≡ 47 → ⊥ }
     ensures { spec.Begins text.now result }
 {
-    if is_plain_sign(byte) {
-        Skim::Token(1)
+    if byte == b'\n' {
+        Skim::Line
+    } else if is_blank(byte) {
+        Skim::Blank(1)
+    } else if byte == b'/' {
+        skim_slash(rest, text)
     } else {
         Skim::Stop
     }
 }
 
-// What begins the text, of which the byte is the first and the rest what follows.
+// What begins the text, of which the byte is the first and the rest what follows. What comes most often is looked for
+// first.
 fn skim_of(byte: u8, rest: &[u8], text: &[u8]) -> Skim
     requires text { text.now ≡ byte ∷ rest.now }
     ensures { spec.Begins text.now result }
 {
-    if is_blank(byte) {
+    if byte == b' ' {
         Skim::Blank(1)
-    } else if byte == b'\n' {
-        Skim::Line
     } else if is_letter(byte) {
         skim_identifier(byte, rest, text)
     } else if is_digit(byte) {
         skim_number(byte, rest, text)
-    } else if byte == b'/' {
-        skim_slash(rest, text)
+    } else if is_plain_sign(byte) {
+        Skim::Token(1)
     } else {
-        skim_other(byte, rest, text)
+        skim_rare(byte, rest, text)
     }
 }
 
@@ -149,15 +150,20 @@ pub(crate) fn skimmed(source: &[u8], line: u32, from: Place) -> Place
     ensures within { result.at ≤ length source.now }
     ensures counted { IsCounted from → IsCounted result }
 {
-    let mut place = from;
-    while place.at < source.len() && place.line != line {
-        let text = &source[place.at..];
+    // Where the first byte of this line that was gone over stands; the column is worked out at the line's end.
+    let mut begun = from;
+    let mut at = from.at;
+    while at < source.len() && begun.line != line {
+        let text = &source[at..];
         match skim_of(text[0], &text[1..], text) {
-            Skim::Stop => return place,
-            Skim::Line => place = next_line(place),
-            Skim::Blank(n) => place = forward(place, n),
-            Skim::Token(n) => place = forward(place, n),
+            Skim::Stop => return forward(begun, at - begun.at),
+            Skim::Line => {
+                begun = next_line(forward(begun, at - begun.at));
+                at += 1;
+            }
+            Skim::Blank(n) => at += n,
+            Skim::Token(n) => at += n,
         }
     }
-    place
+    forward(begun, at - begun.at)
 }
