@@ -174,7 +174,7 @@ agree b cell net c a s pins v =
           let same : nets ≡ r.nets = one.2 nets settled ∙ sym (one.2 r.nets r.settled) in
           ap (λ n. net_value n (place_of net.names p.name)) same
           ∙ same_outputs b pins r.nets r.row 0 outputs r.same k (output_at net.names p) (mapped (output_at net.names) (output_pins cell.pins) k p e)
-            (ap (λ i. is_known (output_value b i pins [])) (from_zero k) ∙ known)
+          (ap (λ i. is_known (output_value b i pins [])) (from_zero k) ∙ known)
           ∙ ap (λ i. output_value b i pins []) (from_zero k);
     }
 

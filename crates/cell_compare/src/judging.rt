@@ -25,6 +25,7 @@ use verdict_text::{Code, Finding, Mismatch, Reason, View};
 use verilog_source::{Module, ModulePart};
 
 const MAX_INPUTS: usize = 12;
+
 const MAX_GATES: usize = 512;
 
 fn over(kind: LimitKind, number: u32) -> Comparison
@@ -33,12 +34,7 @@ fn over(kind: LimitKind, number: u32) -> Comparison
     Comparison::Refused(Reason::Limit { kind, number })
 }
 
-fn not_read(
-    alloc: Global,
-    view: View,
-    construct: &[u8],
-    line: u32,
-) -> Result<Comparison, NoMemory>
+fn not_read(alloc: Global, view: View, construct: &[u8], line: u32) -> Result<Comparison, NoMemory>
     ensures { IfOk result (spec.refused (spec.not_read view construct.now line)) }
 {
     Ok(Comparison::Refused(Reason::Construct {
@@ -59,11 +55,7 @@ fn output_name(alloc: Global, output: Option<&Output>) -> Result<Text, NoMemory>
     }
 }
 
-fn finding_of(
-    alloc: Global,
-    outputs: &[Output],
-    found: Disagreement,
-) -> Result<Finding, NoMemory>
+fn finding_of(alloc: Global, outputs: &[Output], found: Disagreement) -> Result<Finding, NoMemory>
     ensures { IfOk result (λ finding. finding ≡ spec.finding_of outputs.now found) }
 {
     Ok(Finding {
@@ -291,9 +283,13 @@ fn over_part(
     ensures { IfOk result (spec.IsOverPart cell.now (option_copied part.entry) models.now.primitives) }
 {
     match part {
-        Some(ModulePart::Refused {
-            construct, line, ..
-        }) => not_read(alloc, View::Verilog, construct.as_bytes(), *line),
+        Some(
+            ModulePart::Refused {
+                construct,
+                line,
+                ..
+            },
+        ) => not_read(alloc, View::Verilog, construct.as_bytes(), *line),
         Some(ModulePart::Whole(module)) => over_views(alloc, cell, Some(module), models),
         None => over_views(alloc, cell, None, models),
     }
@@ -305,18 +301,16 @@ fn over_part(
 /// differ; there are more than 12 inputs; the cell has no meaning; the module has more than 512 elements, or they make
 /// no network; the cell holds a state. Else every vector of input values is compared, 0 before 1, the first input
 /// first: each output that Liberty defines must have its value in the settled network.
-pub fn compare_part(
-    alloc: Global,
-    part: &CellPart,
-    models: &Models,
-) -> Result<Comparison, NoMemory>
+pub fn compare_part(alloc: Global, part: &CellPart, models: &Models) -> Result<Comparison, NoMemory>
     ensures comparison { IfOk result (spec.IsComparison part.now models.now) }
     // Where nothing differs, the views are equal.
     ensures equal { IfOk result (λ c. SaysEqual c → IsEqualPart part.now models.now) }
 {
     match part {
         CellPart::Refused {
-            construct, line, ..
+            construct,
+            line,
+            ..
         } => not_read(alloc, View::Liberty, construct.as_bytes(), *line),
         CellPart::Whole(cell) => {
             over_part(alloc, cell, models.module(cell.name.as_bytes()), models)

@@ -24,7 +24,9 @@ fn table_or_flaw(alloc: Global, part: &UdpPart) -> Result<Made, NoMemory>
 {
     match part {
         UdpPart::Refused {
-            construct, line, ..
+            construct,
+            line,
+            ..
         } => Ok(Made::Flawed(Flaw::NotRead {
             construct: construct.copied(alloc)?,
             line: *line,
@@ -36,11 +38,7 @@ fn table_or_flaw(alloc: Global, part: &UdpPart) -> Result<Made, NoMemory>
     }
 }
 
-fn add(
-    made: Made,
-    flaws: &mut Items<Option<Flaw>>,
-    tables: &mut Items<Udp>,
-) -> Result<(), NoMemory>
+fn add(made: Made, flaws: &mut Items<Option<Flaw>>, tables: &mut Items<Udp>) -> Result<(), NoMemory>
     ensures flaws { OnOk result (flaws.new ≡ flaws.old ++ spec.flaw_of made ∷ []) }
     ensures tables { OnOk result (tables.new ≡ tables.old ++ spec.table_of made) }
 {

@@ -30,10 +30,7 @@ pub(crate) fn meaning_reason(refusal: MeaningRefusal) -> Result<Reason, NoMemory
 #[derive(Debug, Drop)]
 pub(crate) enum Flaw {
     /// A construct of its text isn't read, at this line.
-    NotRead {
-        construct: Text,
-        line: u32,
-    },
+    NotRead { construct: Text, line: u32 },
     /// This row isn't one, counted from 1.
     BadRow(u32),
     /// These rows conflict.

@@ -27,11 +27,7 @@ pub(crate) fn number(alloc: Global, n: usize) -> Result<String, NoMemory>
     Ok(format!(in alloc; "{n}")?)
 }
 
-fn put_findings(
-    alloc: Global,
-    text: &mut Vec<u8>,
-    found: &[Finding],
-) -> Result<(), NoMemory>
+fn put_findings(alloc: Global, text: &mut Vec<u8>, found: &[Finding]) -> Result<(), NoMemory>
     ensures { OnOk result (text.new.items ≡ text.old.items ++ flat_map finding_line found.now) }
 {
     for finding in found {
@@ -40,11 +36,7 @@ fn put_findings(
     Ok(())
 }
 
-fn put_first(
-    alloc: Global,
-    text: &mut Vec<u8>,
-    first: &Option<Finding>,
-) -> Result<(), NoMemory>
+fn put_first(alloc: Global, text: &mut Vec<u8>, first: &Option<Finding>) -> Result<(), NoMemory>
     ensures { OnOk result (text.new.items ≡ text.old.items ++ spec.first_lines first.now) }
 {
     match first {
@@ -62,16 +54,20 @@ fn put_vectors(
 ) -> Result<(), NoMemory>
     ensures { OnOk result (text.new.items ≡ text.old.items ++ spec.vectors_lines vectors defined first.now) }
 {
-    put_line(text, b"vectors ", number(alloc, vectors as usize)?.as_bytes())?;
-    put_line(text, b"defined ", number(alloc, defined as usize)?.as_bytes())?;
+    put_line(
+        text,
+        b"vectors ",
+        number(alloc, vectors as usize)?.as_bytes(),
+    )?;
+    put_line(
+        text,
+        b"defined ",
+        number(alloc, defined as usize)?.as_bytes(),
+    )?;
     put_first(alloc, text, first)
 }
 
-fn put_found(
-    alloc: Global,
-    text: &mut Vec<u8>,
-    comparison: &Comparison,
-) -> Result<(), NoMemory>
+fn put_found(alloc: Global, text: &mut Vec<u8>, comparison: &Comparison) -> Result<(), NoMemory>
     ensures { OnOk result (text.new.items ≡ text.old.items ++ spec.found_lines comparison.now) }
 {
     match comparison {
@@ -108,11 +104,7 @@ fn put_count(alloc: Global, text: &mut Vec<u8>, front: &[u8], n: usize) -> Resul
 }
 
 /// Appends the line of totals.
-pub(crate) fn put_totals(
-    alloc: Global,
-    text: &mut Vec<u8>,
-    totals: Totals,
-) -> Result<(), NoMemory>
+pub(crate) fn put_totals(alloc: Global, text: &mut Vec<u8>, totals: Totals) -> Result<(), NoMemory>
     ensures { OnOk result (text.new.items ≡ text.old.items ++ spec.line (spec.total_words totals)) }
 {
     put_count(alloc, text, b"total equal ", totals.equal)?;

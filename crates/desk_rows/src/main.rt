@@ -50,9 +50,11 @@ fn show<R: Print + Alloc<A = Global>>(
 
 fn show_file<R: Print + Alloc<A = Global>>(rt: &R, cases: &str) -> Result<()> {
     let mut parts = cases.split('%');
-    while let (Some(title), Some(liberty), Some(verilog)) =
-        (parts.next(), parts.next(), parts.next())
-    {
+    while let (Some(title), Some(liberty), Some(verilog)) = (
+        parts.next(),
+        parts.next(),
+        parts.next(),
+    ) {
         show(rt, title.trim(), liberty, verilog)?;
     }
     Ok(())
@@ -139,7 +141,9 @@ fn show_pins<R: Print + Alloc<A = Global>>(rt: &R, pins: usize) -> Result<()> {
 
 /// The line of totals, or the whole text where it is one line.
 fn totals_of(text: &str) -> &str {
-    text.split('\n').find(|line| line.starts_with("total ")).unwrap_or(text.trim_end())
+    text.split('\n')
+        .find(|line| line.starts_with("total "))
+        .unwrap_or(text.trim_end())
 }
 
 /// A library of this many inverters.
@@ -148,15 +152,12 @@ fn show_cells<R: Print + Alloc<A = Global>>(rt: &R, cells: usize) -> Result<()> 
     let mut liberty = "library(t){".to_string(alloc)?;
     let mut verilog = String::new(alloc);
     for k in 0..cells {
-        liberty.push_str(
-            format!(in alloc;
-                "cell(C{k}){{pin(A){{direction:input;}}pin(Y){{direction:output;function:\"!A\";}}}}"
-            )?
-            .as_str(),
-        )?;
-        verilog.push_str(
-            format!(in alloc; "module C{k}(A,Y);input A;output Y;not(Y,A);endmodule ")?.as_str(),
-        )?;
+        liberty.push_str(format!(in alloc;
+            "cell(C{k}){{pin(A){{direction:input;}}pin(Y){{direction:output;function:\"!A\";}}}}"
+        )?.as_str())?;
+        verilog.push_str(format!(in alloc;
+            "module C{k}(A,Y);input A;output Y;not(Y,A);endmodule "
+        )?.as_str())?;
     }
     liberty.push_str("}")?;
     let answer = compare(alloc, liberty.as_bytes().to_vec(alloc)?, verilog.as_bytes())?;
@@ -172,7 +173,10 @@ fn show_bytes<R: Print + Alloc<A = Global>>(rt: &R) -> Result<()> {
     let mut liberty = Vec::new(alloc);
     liberty.resize(bytes, b' ')?;
     let answer = compare(alloc, liberty, b"")?;
-    print!(rt; "a file of {bytes} bytes: status {}\n{}", answer.status, answer.text)?;
+    print!(rt;
+        "a file of {bytes} bytes: status {}\n{}",
+        answer.status, answer.text
+    )?;
     Ok(())
 }
 

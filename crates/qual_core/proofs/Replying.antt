@@ -64,7 +64,8 @@ module _ (liberty verilog : List ℕ) (file : List ℕ → Option (List ℕ)) wh
   both_compared library source reply l s c d truly = record {
     is = (l.bytes, l.there, liberty_read library l.is s.bytes s.there (compared source s.is c));
     refused_exactly = λ line h. absurd (no_first library source h.0 line l s h.1 h.2);
-    truly = λ done. (record {
+    truly = λ done. (
+      record {
         liberty_bytes = l.bytes;
         verilog_bytes = s.bytes;
         library = library;
@@ -73,7 +74,9 @@ module _ (liberty verilog : List ℕ) (file : List ℕ → Option (List ℕ)) wh
         verilog_there = s.there;
         is_library = l.is;
         is_source = s.is;
-      }, truly);
+      },
+      truly,
+    );
     accepted = λ a. d;
   }
 

@@ -87,10 +87,24 @@ fn put_refusal(alloc: Global, text: &mut Vec<u8>, refusal: &FileRefusal) -> Resu
             put(text, syntax_words(alloc, *line, *column)?.as_bytes())
         }
         FileRefusal::TooMany { kind, number } => {
-            put_counted(alloc, text, "too many ", kind.word().as_bytes(), " ", *number)
+            put_counted(
+                alloc,
+                text,
+                "too many ",
+                kind.word().as_bytes(),
+                " ",
+                *number,
+            )
         }
         FileRefusal::DoubleName { name, line } => {
-            put_counted(alloc, text, "double name ", name.as_bytes(), " line ", *line)
+            put_counted(
+                alloc,
+                text,
+                "double name ",
+                name.as_bytes(),
+                " line ",
+                *line,
+            )
         }
     }
 }
@@ -107,11 +121,7 @@ fn refusal_front(alloc: Global, file: FileOption) -> Result<Vec<u8>, Failure>
     Ok(text)
 }
 
-fn refused_line(
-    alloc: Global,
-    file: FileOption,
-    refusal: &FileRefusal,
-) -> Result<Text, Failure>
+fn refused_line(alloc: Global, file: FileOption, refusal: &FileRefusal) -> Result<Text, Failure>
     ensures line { IfOk result (λ line. line ≡ refusal_line file (refusal_words refusal.now)) }
     ensures told { IfOk result (λ line. IsTold refusal.now) }
     ensures cause { IsErrOf result Failure.ReadFault → ⊥ }

@@ -10,6 +10,5 @@ pub use command::{Command, CommandName, command_of};
 pub use reply::Status;
 pub use top::qual;
 
-
 #[cfg(test)]
 mod tests;

@@ -167,7 +167,10 @@ fn a_refused_first_file_comes_before_a_missing_second(rt: HostRuntime) -> Result
         qual(alloc, &words, &mut shelf, &mut out),
         Status::FileRefused
     );
-    assert_eq!(rt; out.written(), b"refused liberty syntax line 1 column 1\n".as_slice());
+    assert_eq!(rt;
+        out.written(),
+        b"refused liberty syntax line 1 column 1\n".as_slice()
+    );
     assert_eq!(rt; shelf.asked().starts, 1);
     let words = words_of(alloc, &["compare", "--liberty", "a", "--verilog", "other"])?;
     let mut shelf = shelf_of(alloc, LIBERTY, VERILOG, &[])?;

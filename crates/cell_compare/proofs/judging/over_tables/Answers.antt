@@ -15,7 +15,7 @@ returns-in-Ok c =
     let supplies = c.as_slice-5.ensures ∙ c.in_ok-supplies.ensures ∙ ap supplies_in c.as_slice-3.ensures ∙ ap (λ (t : PinTable). supplies_in t.pins) c.in_ok-pins.ensures in
     IfOk-weaker c.over_network.result _ (spec.IsOverPrimitives c.args.behaviour c.args.cell.now c.args.module.now c.args.models.now.primitives)
     (λ k h. over_made c.args.behaviour c.args.cell.now c.args.module.now c.args.models.now.primitives p c.in_ok-reason.field-0 _ _ c.in-Ok.net k
-      c.primitives-primitives.ensures reason c.in_default.is inputs supplies c.in-Ok.ensures.built h)
+    c.primitives-primitives.ensures reason c.in_default.is inputs supplies c.in-Ok.ensures.built h)
     c.over_network.ensures
 
 pub returns-in_ok-gate_reason-in-Err : goal.returns-in_ok-gate_reason-in-Err

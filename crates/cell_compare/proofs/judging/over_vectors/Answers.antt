@@ -14,5 +14,5 @@ returns c =
     let inputs = c.inputs-inputs.ensures ∙ c.requires.means.inputs in
     IfOk-weaker c.counted.result _ (spec.AreCompared c.args.behaviour c.args.cell.now c.args.net)
     (λ k e. vectors_compared c.args.behaviour c.args.cell.now c.args.net c.in_ok-outputs.outputs c.inputs-inputs.result c.in_ok-tally.tally k one outputs inputs c.in_ok-tally.ensures
-      (e ∙ ap (λ os. spec.counted os c.in_ok-tally.tally) c.as_slice-2.ensures))
+    (e ∙ ap (λ os. spec.counted os c.in_ok-tally.tally) c.as_slice-2.ensures))
     c.counted.ensures

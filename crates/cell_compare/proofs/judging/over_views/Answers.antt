@@ -22,5 +22,5 @@ returns c =
     let none : length c.in_ok-findings.findings ≡ 0 = grind (arith, nat_tests, c.if-len-gt0.false, c.len.ensures) in
     IfOk-weaker c.over_module.result _ (spec.IsOverViews c.args.cell.now (option_copied c.args.module) c.args.models.now.primitives)
     (λ k h. pins_equal c.args.cell.now (option_copied c.args.module) c.args.models.now.primitives c.in_ok-views.views c.in_ok-pin_findings.field-0.items c.in_ok-findings.findings k
-      c.in_ok-views.ensures (sym c.have_many_pins.ensures ∙ c.if-have_many_pins.false) c.in_ok-pin_findings.ensures c.in_ok-findings.ensures none h)
+    c.in_ok-views.ensures (sym c.have_many_pins.ensures ∙ c.if-have_many_pins.false) c.in_ok-pin_findings.ensures c.in_ok-findings.ensures none h)
     c.over_module.ensures

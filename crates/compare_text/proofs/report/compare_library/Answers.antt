@@ -17,7 +17,7 @@ loop-part-preserved c =
     let totals = c.with-totals.ensures ∙ ap (λ v. with_verdict v c.loop-part.totals) c.verdict_of.ensures in
     record {
       begun = next_cell library.cells c.loop-part.part-index c.args.models.now c.loop-part.text.items c.put_block.new.text.items c.loop-part.totals c.with-totals.result p k
-        inside (c.part-item.is ∙ ap (λ (xs : List CellPart). get_or xs c.loop-part.part-index p) c.as_slice-part-items.ensures) c.loop-part.invariant.begun c.in_ok-comparison.ensures.comparison text totals;
+          inside (c.part-item.is ∙ ap (λ (xs : List CellPart). get_or xs c.loop-part.part-index p) c.as_slice-part-items.ensures) c.loop-part.invariant.begun c.in_ok-comparison.ensures.comparison text totals;
       count = ap (λ (t : Totals). t.equal + t.differs + t.refused) c.with-totals.ensures ∙ count_more c.verdict_of.result c.loop-part.totals ∙ ap (λ (n : ℕ). n + 1) c.loop-part.invariant.count;
     }
 

@@ -17,7 +17,7 @@ returns-clause-reply g c told =
     let file = g.S.Shelf.file c.args.shelf.now in
     IfOk-weaker c.compare_files.result _ _ (λ reply h. compare_answer words c.args.command.now file reply c.requires h)
     (answer_named c.compare_files.result words c.args.command.now file c.file_name-liberty.result.now c.file_name-verilog.result.now
-      c.requires c.file_name-liberty.ensures c.file_name-verilog.ensures (c.compare_files.ensures.reply told))
+    c.requires c.file_name-liberty.ensures c.file_name-verilog.ensures (c.compare_files.ensures.reply told))
 
 pub returns-clause-succeeds : goal.returns-clause-succeeds
 returns-clause-succeeds g c =
