@@ -1,0 +1,3 @@
+use super::*;
+use std::process::Abort;
+use std::test::Fail;
