@@ -1,13 +1,13 @@
 -- A word or a line further.
 use Rattle.std.proofs.Common.{◌≡◌, ◌++◌, ℕ, Bool, true, false, List, [], ◌∷◌, refl, sym, ◌∙◌}
-use Rattle.std.proofs.Common.{ap, Option, Some, None}
+use Rattle.std.proofs.Common.{ap, cond, subst, Option, Some, None}
 use Rattle.std.specs.Option.{MatchOption}
 use Rattle.text_scan.specs.Bytes.{begins_with}
 use Rattle.cdl_cards.specs.Lines.{next_line}
 use Rattle.cdl_cards.specs.Words.{PlacedWord, words}
-use Rattle.cdl_cards.specs.Kinds.{after_first, kind_by, kind_of_words, shown}
+use Rattle.cdl_cards.specs.Kinds.{after_first, is_pin_info, kind_by, kind_of_words, shown}
 use Rattle.cdl_cards.specs.Cards.{cards, going_on, going_on_by, stray, stray_by, with_card}
-use Rattle.cdl_cards.specs.Left.{begun_left, card_left, going_left, Took, lines_left, stray_left, word_of, words_left}
+use Rattle.cdl_cards.specs.Left.{IsStray, begun_left, card_left, going_left, Took, lines_left, stray_left, word_of, words_left}
 use Rattle.cdl_cards.specs.declared.kinds.LineKind.{LineKind}
 use Rattle.cdl_cards.specs.declared.kinds.LineKind.TheVariants as kinds
 use Rattle.cdl_cards.specs.declared.line.Line.{Line}
@@ -117,9 +117,36 @@ pub first_word : (r : Option Word) (line after : Line) (old new : Lines) → kin
 first_word None line after old new k e h = absurd (card_shown (words_left line) k h)
 first_word (Some w) line after old new k e h = e ∙ ap (λ ws. (ws ++ going_left new) ∷ begun_left new) h
 
+kind_plus : (bytes : List ℕ) → kind_by bytes ≡ kinds.More → begins_with 43 bytes ≡ true
+unfolding kind_by
+kind_plus bytes k = go (begins_with 36 bytes) (begins_with 43 bytes) refl refl
+  where
+    go : (a b : Bool) → begins_with 36 bytes ≡ a → begins_with 43 bytes ≡ b → b ≡ true
+    go true b e f = let no : kinds.Passed ≡ kinds.More = rw e at k in cc no
+    go false true e f = refl
+    go false false e f = last (begins_with 42 bytes) (is_pin_info bytes) (rw (e, f) at k)
+      where
+        last : (x y : Bool) → cond x (cond y kinds.Card kinds.Passed) kinds.Card ≡ kinds.More → false ≡ true
+        last true true h = cc h
+        last true false h = cc h
+        last false y h = cc h
+
+first_plus : (ws us : List PlacedWord) (w : PlacedWord) → kind_of_words ws ≡ kinds.More → shown ws ≡ w ∷ us → begins_with 43 w.bytes ≡ true
+unfolding shown
+first_plus [] us w k e = cc e
+first_plus (v ∷ vs) us w k e = go (begins_with 36 v.bytes) e
+  where
+    go : (g : Bool) → cond g [] (v ∷ shown vs) ≡ w ∷ us → begins_with 43 w.bytes ≡ true
+    go true h = cc h
+    go false h = let same : v ≡ w = cc h in subst (λ z. begins_with 43 z.bytes ≡ true) same (kind_plus v.bytes k)
+
 pub stray_first : (r : Option Word) (line after : Line) (old : List (List PlacedWord)) → kind_of_words (words_left line) ≡ kinds.More
     → old ≡ shown (words_left line) ∷ []
     → MatchOption r (shown (words_left line) ≡ []) (λ w. shown (words_left line) ≡ word_of w ∷ shown (words_left after))
-    → MatchOption r (old ≡ []) (λ w. (more : List PlacedWord) × (old ≡ (word_of w ∷ more) ∷ []))
+    → MatchOption r (old ≡ []) (λ w. IsStray w old)
 stray_first None line after old k e h = absurd (more_shown (words_left line) k h)
-stray_first (Some w) line after old k e h = (shown (words_left after), e ∙ ap (λ ws. ws ∷ []) h)
+stray_first (Some w) line after old k e h = record {
+  plus = first_plus (words_left line) (shown (words_left after)) (word_of w) k h;
+  more = shown (words_left after);
+  is = e ∙ ap (λ ws. ws ∷ []) h;
+}

@@ -1,5 +1,6 @@
 -- What a reader of cards has before it.
-use Rattle.std.specs.Prelude.{◌≡◌, ◌<◌, ℕ, List, ◌∷◌, ◌++◌, length}
+use Rattle.std.specs.Prelude.{◌≡◌, ◌<◌, ℕ, true, List, [], ◌∷◌, ◌++◌, length}
+use Rattle.text_scan.specs.Bytes.{begins_with}
 use Rattle.cdl_cards.specs.Lines.{lines, next_line}
 use Rattle.cdl_cards.specs.Words.{PlacedWord, words}
 use Rattle.cdl_cards.specs.Kinds.{shown}
@@ -46,3 +47,9 @@ card_left c = shown (words_left c.line) ++ going_left c.lines
 -- the cards after it
 unfoldable pub cards_left : Cards → List Card
 cards_left c = begun_left c.lines
+
+-- this word begins with + and is the first of the one card
+pub record IsStray (w : Word) (cards : List Card) : Type 0 where
+  pub plus : begins_with 43 w.bytes.now ≡ true
+  pub more : List PlacedWord
+  pub is : cards ≡ (word_of w ∷ more) ∷ []

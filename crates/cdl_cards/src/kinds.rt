@@ -22,8 +22,9 @@ pub fn is_same_word(a: &[u8], b: &[u8]) -> bool
     a.eq_ignore_ascii_case(b)
 }
 
+/// Whether the word is that of a card that tells of pins.
 #[tactic(auto, unfolding(crate::specs::Kinds::is_pin_info))]
-fn is_pin_info(word: &[u8]) -> bool
+pub fn is_pin_info(word: &[u8]) -> bool
     ensures { result ≡ spec.is_pin_info word.now }
 {
     is_same_word(word, b"*.PININFO")

@@ -15,9 +15,10 @@ mod search;
 
 pub use cards::Cards;
 pub use ends::end_of;
-pub use kinds::is_same_word;
+pub use kinds::{is_pin_info, is_same_word};
 pub use line::Word;
 pub use reading::stray_word;
+pub use search::begins_with;
 
 #[cfg(test)]
 mod tests;

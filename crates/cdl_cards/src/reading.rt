@@ -1,10 +1,9 @@
 //! Reading a text card by card.
-ghost use Rattle.std.specs.Prelude.{◌≡◌, ◌<◌, ◌∷◌, ◌++◌, [], List, length, MatchOption, IfSome};
+ghost use Rattle.std.specs.Prelude.{◌≡◌, ◌<◌, ◌∷◌, ◌++◌, [], length, MatchOption, IfSome};
 ghost use Rattle.cdl_cards.specs.Cards as spec;
 ghost use Rattle.cdl_cards.specs.Kinds.{kind_of_words, shown};
 ghost use Rattle.cdl_cards.specs.Lines.{lines};
-ghost use Rattle.cdl_cards.specs.Words.{PlacedWord};
-ghost use Rattle.cdl_cards.specs.Left.{card_left, cards_left, going_left, begun_left, stray_left, lines_left, word_of, words_left};
+ghost use Rattle.cdl_cards.specs.Left.{IsStray, card_left, cards_left, going_left, begun_left, stray_left, lines_left, word_of, words_left};
 ghost use Rattle.cdl_cards.specs.declared.kinds.LineKind.TheVariants as kinds;
 
 use crate::cards::Cards;
@@ -69,7 +68,7 @@ impl<'a> Lines<'a> {
 
 /// The first word of a line that goes on with a card, where no card stands before it.
 pub fn stray_word(text: &[u8]) -> Option<Word<'_>>
-    ensures { MatchOption result (spec.stray 1 (lines text.now) ≡ []) (λ w. (more : List PlacedWord) × (spec.stray 1 (lines text.now) ≡ (word_of w ∷ more) ∷ [])) }
+    ensures { MatchOption result (spec.stray 1 (lines text.now) ≡ []) (λ w. IsStray w (spec.stray 1 (lines text.now))) }
 {
     match Lines::of(text).next_stray() {
         None => None,

@@ -67,8 +67,9 @@ pub(crate) fn until_line_end(text: &[u8]) -> usize
     }
 }
 
+/// Whether the text begins with this byte.
 #[tactic(auto, unfolding(text_scan::specs::Bytes::begins_with))]
-pub(crate) fn begins_with(byte: u8, text: &[u8]) -> bool
+pub fn begins_with(byte: u8, text: &[u8]) -> bool
     ensures { result ≡ bytes.begins_with byte text.now }
 {
     match text {
