@@ -1,10 +1,9 @@
 -- Where a line ends.
-use Rattle.std.proofs.Common.{◌≡◌, ◌≤◌, ◌<◌, ◌+◌, ℕ, zero, suc, Bool, true, false, cond, List, [], ◌∷◌, length, take, drop, length-drop, refl, sym, ap, ◌∙◌, arith, eqb}
+use Rattle.std.proofs.Common.{◌≡◌, ◌≤◌, ◌<◌, ℕ, suc, Bool, true, false, cond, List, [], ◌∷◌, length, take, drop, length-drop, refl, sym, ◌∙◌, arith, eqb}
 use Rattle.std.specs.Prelude.{◌==◌}
 use Rattle.std.proofs.lemmas.List.{length-take-le}
 use Rattle.std.proofs.Math.ListN.{drop_of_length-le}
 use Rattle.text_scan.specs.Bytes.{until, begins_with}
-use Rattle.text_scan.proofs.Until.{until-le}
 use Rattle.cdl_cards.specs.Lines.{lines, grown, after_line}
 
 -- behind a line that ends with the text there is nothing

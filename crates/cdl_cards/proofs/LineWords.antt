@@ -3,7 +3,7 @@ use Rattle.std.proofs.Common.{◌≡◌, ◌≤◌, ◌<◌, ◌+◌, ◌-◌, �
 use Rattle.std.proofs.lemmas.List.{take_rest}
 use Rattle.text_scan.specs.Bytes.{until, is_space}
 use Rattle.text_scan.specs.Pieces.{begins_space, ends_run}
-use Rattle.cdl_cards.specs.Words.{PlacedWord, blanks, words, word_at, column_of}
+use Rattle.cdl_cards.specs.Words.{blanks, words, word_at, column_of}
 use Rattle.cdl_cards.specs.Kinds.{after_first}
 
 pub inside_dropped : (number size n : ℕ) (bs : List ℕ) → words number size n bs ≡ words number size 0 (drop n bs)

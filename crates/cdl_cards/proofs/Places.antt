@@ -1,5 +1,5 @@
 -- The place after the last byte, a byte further.
-use Rattle.std.proofs.Common.{◌≡◌, ◌<◌, ◌+◌, ℕ, Bool, true, false, cond, List, [], ◌∷◌, length, drop, get_or, eqb, min, refl, ap, ◌∙◌, arith}
+use Rattle.std.proofs.Common.{◌≡◌, ◌<◌, ◌+◌, ℕ, Bool, true, false, cond, List, [], length, drop, get_or, eqb, min, refl}
 use Rattle.std.proofs.lemmas.List.{drop_more}
 use Rattle.text_scan.specs.Tokens.{after, over}
 use Rattle.text_scan.specs.declared.token.Place.{Place}

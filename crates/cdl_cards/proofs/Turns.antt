@@ -1,13 +1,12 @@
 -- A word or a line further.
-use Rattle.std.proofs.Common.{◌≡◌, ◌++◌, ℕ, Bool, true, false, List, [], ◌∷◌, refl, sym, ◌∙◌}
+use Rattle.std.proofs.Common.{◌≡◌, ◌++◌, ℕ, Bool, true, false, List, [], ◌∷◌, refl, ◌∙◌}
 use Rattle.std.proofs.Common.{ap, cond, subst, Option, Some, None}
 use Rattle.std.specs.Option.{MatchOption}
 use Rattle.text_scan.specs.Bytes.{begins_with}
-use Rattle.cdl_cards.specs.Lines.{next_line}
 use Rattle.cdl_cards.specs.Words.{PlacedWord, words}
 use Rattle.cdl_cards.specs.Kinds.{after_first, is_pin_info, kind_by, kind_of_words, shown}
 use Rattle.cdl_cards.specs.Cards.{cards, going_on, going_on_by, stray, stray_by, with_card}
-use Rattle.cdl_cards.specs.Left.{IsStray, begun_left, card_left, going_left, Took, lines_left, stray_left, word_of, words_left}
+use Rattle.cdl_cards.specs.Left.{IsStray, begun_left, going_left, Took, lines_left, stray_left, word_of, words_left}
 use Rattle.cdl_cards.specs.declared.kinds.LineKind.{LineKind}
 use Rattle.cdl_cards.specs.declared.kinds.LineKind.TheVariants as kinds
 use Rattle.cdl_cards.specs.declared.line.Line.{Line}

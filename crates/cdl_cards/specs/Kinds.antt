@@ -1,5 +1,5 @@
 -- What a line is for the cards of its text, and which of its words belong to them.
-use Rattle.std.specs.Prelude.{ℕ, Bool, true, false, if◌then◌else◌, List, [], ◌∷◌, length}
+use Rattle.std.specs.Prelude.{ℕ, Bool, if◌then◌else◌, List, [], ◌∷◌, length}
 use Rattle.std.specs.Str.{bytes_eq}
 use Rattle.std.specs.Prelude.{codes, map}
 use Rattle.std.specs.Char.{to_ascii_lowercase}

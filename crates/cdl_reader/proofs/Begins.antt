@@ -1,5 +1,5 @@
 -- What beginning, entering and ending lead to.
-use Rattle.std.proofs.Common.{◌≡◌, ◌<◌, ◌≤◌, ℕ, Bool, true, false, List, [], ◌∷◌, ◌++◌, length, Option, Some, None, Result, Ok, Err, refl, sym, ap, subst, ◌∙◌, arith}
+use Rattle.std.proofs.Common.{◌≡◌, ◌<◌, ◌≤◌, ℕ, true, false, List, [], ◌∷◌, ◌++◌, length, Option, Some, None, Result, Ok, Err, refl, sym, ap, subst, ◌∙◌, arith}
 use Rattle.std.specs.Prelude.{is_some, nat_le, map}
 use Rattle.text_scan.specs.declared.limits.Limits.{Limits}
 use Rattle.text_scan.specs.declared.limits.LimitKind.TheVariants as limit_kinds
@@ -8,8 +8,8 @@ use Rattle.text_scan.specs.declared.refusal.FileRefusal.TheVariants as refusals
 use Rattle.circuit.specs.declared.netlist.SubcircuitPart.{SubcircuitPart}
 use Rattle.cdl_cards.specs.Words.{PlacedWord}
 use Rattle.cdl_cards.specs.Cards.{Card}
-use Rattle.cdl_reader.specs.Words.{Fault, first_of, first_fault, kind_of_card, operands}
-use Rattle.cdl_reader.specs.Actions.{adds, at_word, begin, begun_part, close, end_refusal, enter, enter_part, entered, named_part, opened, refused_by, unless_told, with_part, word_bytes}
+use Rattle.cdl_reader.specs.Words.{first_fault, kind_of_card, operands}
+use Rattle.cdl_reader.specs.Actions.{adds, at_word, begin, begun_part, close, end_refusal, enter_part, entered, named_part, opened, refused_by, unless_told, with_part, word_bytes}
 use Rattle.cdl_reader.specs.Parts.{made, no_part}
 use Rattle.cdl_reader.specs.Steps.{TellsSome, taken, taken_outside, taken_inside}
 use Rattle.cdl_reader.specs.Told.{Agrees, Steps, at_card}
@@ -18,7 +18,6 @@ use Rattle.cdl_reader.specs.declared.kinds.CardKind.TheVariants as kinds
 use Rattle.cdl_reader.specs.declared.part.Construct.{Construct}
 use Rattle.cdl_reader.specs.declared.part.Part.{Part}
 use Rattle.cdl_reader.specs.declared.parts.Parts.{Parts}
-use Rattle.cdl_reader.specs.declared.reader.Phase.{Phase}
 use Rattle.cdl_reader.specs.declared.reader.Phase.TheVariants as phases
 use Rattle.cdl_reader.specs.declared.reader.Reader.{Reader}
 

@@ -1,5 +1,5 @@
 -- Each card leads to what the grammar says.
-use Rattle.std.proofs.Common.{◌≡◌, ◌++◌, eqb, ℕ, Bool, true, false, ◌||◌, List, [], ◌∷◌, Result, Ok, Err, refl, sym, ap, subst, ◌∙◌}
+use Rattle.std.proofs.Common.{◌≡◌, ◌++◌, eqb, ℕ, true, false, List, [], ◌∷◌, Result, Ok, Err, refl, sym, ap, subst, ◌∙◌}
 use Rattle.std.proofs.lemmas.Bool.{eqb-true}
 use Rattle.text_scan.specs.Bytes.{begins_with}
 use Rattle.text_scan.specs.Tokens.{after, start}
@@ -7,7 +7,7 @@ use Rattle.text_scan.specs.declared.limits.Limits.{Limits}
 use Rattle.text_scan.specs.declared.refusal.FileRefusal.{FileRefusal}
 use Rattle.text_scan.specs.declared.refusal.FileRefusal.TheVariants as refusals
 use Rattle.grammar.specs.Rule.{none, many, seq}
-use Rattle.grammar.specs.Reading.{Stop, syntax, refusal, acting, begins, read, ◌>>=◌}
+use Rattle.grammar.specs.Reading.{Stop, syntax, refusal, acting, read, ◌>>=◌}
 use Rattle.grammar.specs.Answers.{read_all, to_end}
 use Rattle.grammar.proofs.Stops.{many_turn, many_end}
 use Rattle.circuit.specs.declared.netlist.Netlist.{Netlist}
@@ -17,9 +17,9 @@ use Rattle.cdl_cards.specs.Left.{IsStray, word_of}
 use Rattle.cdl_cards.specs.declared.line.Word.{Word}
 use Rattle.cdl_reader.specs.Words.{kind_of_card, kind_of_word, behind, operands}
 use Rattle.cdl_reader.specs.Actions.{at_word, begin, close, enter}
-use Rattle.cdl_reader.specs.Grammar.{CardRule, after_begin, body, card, is_begin, is_end, is_plain, item, netlist, nothing, nothing_more}
+use Rattle.cdl_reader.specs.Grammar.{CardRule, after_begin, body, card, is_begin, is_end, is_plain, item, netlist, nothing}
 use Rattle.cdl_reader.specs.Steps.{moved, phase_after, reads, taken, taken_by, taken_inside, taken_outside, to_come}
-use Rattle.cdl_reader.specs.Told.{Agrees, Answer, Steps, at_place, told}
+use Rattle.cdl_reader.specs.Told.{Agrees, Steps, at_place, told}
 use Rattle.cdl_reader.specs.declared.kinds.CardKind.{CardKind}
 use Rattle.cdl_reader.specs.declared.kinds.CardKind.TheVariants as kinds
 use Rattle.cdl_reader.specs.declared.parts.Parts.{Parts}

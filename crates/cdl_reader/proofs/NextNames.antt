@@ -1,12 +1,12 @@
 -- The next name of a card.
-use Rattle.std.proofs.Common.{◌≡◌, true, false, ℕ, zero, suc, List, [], ◌∷◌, Option, Some, None, Result, Ok, Err, refl, sym, ap, subst, ◌∙◌, ◌++◌, map, append_assoc}
+use Rattle.std.proofs.Common.{◌≡◌, true, false, ℕ, suc, List, [], ◌∷◌, Option, Some, None, Result, Ok, Err, refl, sym, subst, ◌∙◌, ◌++◌, map, append_assoc}
 use Rattle.std.proofs.lemmas.List.{append-nil}
 use Rattle.std.specs.Result.{MatchResult}
 use Rattle.text_scan.specs.declared.limits.Limits.{Limits}
 use Rattle.cdl_cards.specs.Words.{PlacedWord}
 use Rattle.cdl_cards.specs.Left.{word_of}
 use Rattle.cdl_cards.specs.declared.line.Word.{Word}
-use Rattle.cdl_reader.specs.Words.{Fault, first_of, fault_of, first_fault, fault_among, no_name, too_long, operands, has_equals}
+use Rattle.cdl_reader.specs.Words.{Fault, first_of, fault_of, first_fault, fault_among, no_name, operands, has_equals}
 use Rattle.cdl_reader.specs.Actions.{word_bytes}
 use Rattle.cdl_reader.specs.Steps.{IsFault, IsNextName}
 use Rattle.cdl_reader.specs.declared.names.WordFault.{WordFault}

@@ -1,15 +1,14 @@
 -- The six names of a transistor, one after the other.
-use Rattle.std.proofs.Common.{◌≡◌, ◌+◌, ℕ, suc, arith, List, [], ◌∷◌, Option, Some, None, refl, sym, ap, ◌∙◌}
+use Rattle.std.proofs.Common.{◌≡◌, ◌+◌, ℕ, suc, arith, List, ◌∷◌, Some, None, refl}
 use Rattle.text_scan.specs.declared.limits.Limits.{Limits}
-use Rattle.circuit.specs.declared.netlist.Transistor.{Transistor}
 use Rattle.cdl_cards.specs.Words.{PlacedWord}
 use Rattle.cdl_cards.specs.Left.{word_of}
 use Rattle.cdl_cards.specs.declared.line.Word.{Word}
-use Rattle.cdl_reader.specs.Words.{Fault, fault_among, fault_of}
+use Rattle.cdl_reader.specs.Words.{fault_among, fault_of}
 use Rattle.cdl_reader.specs.Parts.{transistor_of}
 use Rattle.cdl_reader.specs.Steps.{IsFault}
 use Rattle.cdl_reader.specs.declared.names.WordFault.{WordFault}
-use Rattle.cdl_reader.proofs.NextNames.{fault_along, fault_first, name_there}
+use Rattle.cdl_reader.proofs.NextNames.{fault_first, name_there}
 
 -- a name was read from the front of these words
 abbrev pub Read : Limits → Word → List PlacedWord → List PlacedWord → Type 0

@@ -1,5 +1,5 @@
 -- What cards add to a netlist, or why it is refused.
-use Rattle.std.specs.Prelude.{ℕ, Bool, true, false, nat_le, nat_lt, if◌then◌else◌, List, [], ◌∷◌, ◌++◌, length, map, Option, Some, None, Result, Ok, Err}
+use Rattle.std.specs.Prelude.{ℕ, nat_le, if◌then◌else◌, List, [], ◌∷◌, ◌++◌, length, map, Option, Some, None, Result, Ok, Err}
 use Rattle.name_index.specs.Places.{is_known}
 use Rattle.text_scan.specs.declared.limits.Limits.{Limits}
 use Rattle.text_scan.specs.declared.limits.LimitKind.TheVariants as limit_kinds
@@ -7,7 +7,6 @@ use Rattle.text_scan.specs.declared.refusal.FileRefusal.{FileRefusal}
 use Rattle.text_scan.specs.declared.refusal.FileRefusal.TheVariants as refusals
 use Rattle.cdl_cards.specs.Words.{PlacedWord}
 use Rattle.cdl_cards.specs.Cards.{Card}
-use Rattle.cdl_reader.specs.Names.{is_name}
 use Rattle.cdl_reader.specs.Words.{Fault, too_long, no_name, first_of, fault_of, first_fault, fault_among, kind_of_card, behind, operands}
 use Rattle.cdl_reader.specs.Pins.{told_by_words}
 use Rattle.cdl_reader.specs.Parts.{made, no_part, refused_at, transistor_of, with_transistor}

@@ -1,5 +1,5 @@
 -- A netlist as a rule over the cards of its text.
-use Rattle.std.specs.Prelude.{ℕ, Bool, true, false, List, [], ◌∷◌, Result, Ok, Err}
+use Rattle.std.specs.Prelude.{Bool, true, false, List, [], ◌∷◌, Result, Ok}
 use Rattle.text_scan.specs.declared.limits.Limits.{Limits}
 use Rattle.text_scan.specs.declared.refusal.FileRefusal.{FileRefusal}
 use Rattle.grammar.specs.Rule.{Rule, none, one, before, seq, alt, many}

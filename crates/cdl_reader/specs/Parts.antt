@@ -1,6 +1,5 @@
 -- What is read of a subcircuit.
-use Rattle.std.specs.Prelude.{ℕ, List, [], ◌∷◌, ◌++◌, Option, Some, None}
-use Rattle.text_scan.specs.declared.pins.Direction.{Direction}
+use Rattle.std.specs.Prelude.{[], ◌∷◌, ◌++◌, Option, Some, None}
 use Rattle.circuit.specs.declared.netlist.Transistor.{Transistor}
 use Rattle.circuit.specs.declared.netlist.SubcircuitPart.{SubcircuitPart}
 use Rattle.circuit.specs.declared.netlist.SubcircuitPart.TheVariants as parts

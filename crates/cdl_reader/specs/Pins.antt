@@ -1,5 +1,5 @@
 -- Directions of pins.
-use Rattle.std.specs.Prelude.{◌≡◌, ℕ, Bool, true, false, ◌+◌, ◌-◌, ◌==◌, ◌||◌, if◌then◌else◌, List, [], ◌∷◌, ◌++◌, length, take, drop, map, filter_map, slice_get, unwrap_or, Option, Some, None}
+use Rattle.std.specs.Prelude.{◌≡◌, ℕ, ◌-◌, ◌==◌, ◌||◌, if◌then◌else◌, List, [], ◌∷◌, ◌++◌, length, take, drop, map, filter_map, slice_get, unwrap_or, Option, Some, None}
 use Rattle.std.specs.Str.{bytes_eq}
 use Rattle.text_scan.specs.declared.pins.Direction.{Direction}
 use Rattle.text_scan.specs.declared.pins.Direction.TheVariants as directions

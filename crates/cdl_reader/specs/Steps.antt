@@ -13,7 +13,7 @@ use Rattle.cdl_cards.specs.declared.line.Word.{Word}
 use Rattle.cdl_reader.specs.Words.{Fault, too_long, no_name, fault_of, first_fault, fault_among, kind_of_card, behind, operands}
 use Rattle.cdl_reader.specs.Actions.{enter, begin, close, fault_of_transistor, word_bytes}
 use Rattle.cdl_reader.specs.Parts.{transistor_of}
-use Rattle.cdl_reader.specs.Grammar.{CardRule, body, netlist, nothing_more, is_begin}
+use Rattle.cdl_reader.specs.Grammar.{CardRule, body, netlist, nothing_more}
 use Rattle.cdl_reader.specs.Told.{Answer, at_card}
 use Rattle.cdl_reader.specs.declared.kinds.CardKind.{CardKind}
 use Rattle.cdl_reader.specs.declared.kinds.CardKind.TheVariants as kinds

@@ -8,7 +8,6 @@ use Rattle.text_scan.specs.declared.refusal.FileRefusal.TheVariants as refusals
 use Rattle.grammar.specs.Reading.{Stop, syntax, refusal}
 use Rattle.grammar.specs.Answers.{IsAnswer}
 use Rattle.circuit.specs.declared.netlist.Netlist.{Netlist}
-use Rattle.cdl_cards.specs.Words.{PlacedWord}
 use Rattle.cdl_cards.specs.Cards.{Card, cards_of}
 use Rattle.cdl_reader.specs.Actions.{at_word}
 use Rattle.cdl_reader.specs.Grammar.{netlist, nothing}

@@ -1,5 +1,5 @@
 use Rattle.std.proofs.Common.{sym, ap, ◌∙◌, refl, ◌+◌, drop}
-use Rattle.text_scan.specs.Tokens.{after, start}
+use Rattle.text_scan.specs.Tokens.{after}
 use Rattle.std.proofs.Math.ListN.{drop_of_length-le}
 use Rattle.cdl_cards.proofs.Places.{after_more, over_at, after_none}
 use Rattle.cdl_cards.proofs.ends.end_of.Goals as goal

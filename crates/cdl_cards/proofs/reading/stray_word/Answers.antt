@@ -1,4 +1,4 @@
-use Rattle.std.proofs.Common.{sym, ◌∙◌, ap, ◌≡◌}
+use Rattle.std.proofs.Common.{sym, ◌∙◌, ap}
 use Rattle.cdl_cards.specs.Cards.{stray}
 use Rattle.cdl_cards.specs.Left.{lines_left}
 use Rattle.cdl_cards.proofs.Turns.{stray_first}

@@ -1,8 +1,6 @@
-use Rattle.std.proofs.Common.{sym, ◌∙◌, ap, ◌≡◌, ◌++◌, ◌∷◌, map, append_assoc}
-use Rattle.std.proofs.lemmas.List.{append-nil}
-use Rattle.cdl_cards.specs.Left.{card_left, word_of}
+use Rattle.std.proofs.Common.{sym, ◌∙◌, ap}
+use Rattle.cdl_cards.specs.Left.{word_of}
 use Rattle.cdl_reader.specs.Actions.{word_bytes}
-use Rattle.cdl_reader.specs.Words.{operands}
 use Rattle.cdl_reader.proofs.NextNames.{fault_here, no_fault_here, no_faults, pins_kept, pins_all}
 use Rattle.cdl_reader.proofs.actions.read_pins.Goals as goal
 

@@ -1,6 +1,6 @@
-use Rattle.std.proofs.Common.{◌∙◌, refl}
+use Rattle.std.proofs.Common.{◌∙◌}
 use Rattle.cdl_cards.specs.Left.{card_left, word_of}
-use Rattle.cdl_reader.proofs.NextNames.{fault_along, fault_first}
+use Rattle.cdl_reader.proofs.NextNames.{fault_along}
 use Rattle.cdl_reader.proofs.Terminals.{along, first_along, first_fault_so, none_left, whole}
 use Rattle.cdl_reader.proofs.transistors.read_terminals.Goals as goal
 

@@ -1,6 +1,5 @@
-use Rattle.std.proofs.Common.{◌++◌, ◌≡◌, refl, List}
-use Rattle.cdl_cards.specs.Cards.{cards_of, stray, cards}
-use Rattle.cdl_cards.specs.Lines.{lines}
+use Rattle.std.proofs.Common.{refl}
+use Rattle.cdl_cards.specs.Cards.{cards_of}
 use Rattle.cdl_cards.specs.Left.{cards_left}
 use Rattle.cdl_cards.proofs.cards.Cards.new.Goals as goal
 

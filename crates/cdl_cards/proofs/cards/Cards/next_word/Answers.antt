@@ -1,4 +1,4 @@
-use Rattle.std.proofs.Common.{sym, ◌∙◌, ap, ◌≡◌, ◌++◌}
+use Rattle.std.proofs.Common.{sym, ◌∙◌, ap, ◌++◌}
 use Rattle.cdl_cards.specs.Left.{cards_left, card_left, going_left}
 use Rattle.cdl_cards.proofs.cards.Cards.next_word.Goals as goal
 

@@ -1,4 +1,4 @@
-use Rattle.std.proofs.Common.{sym, ◌∙◌}
+use Rattle.std.proofs.Common.{sym}
 use Rattle.cdl_cards.specs.Left.{word_of, words_left}
 use Rattle.cdl_cards.proofs.Turns.{shown_none, shown_ends, shown_more}
 use Rattle.cdl_cards.proofs.line.Line.next_word.Goals as goal

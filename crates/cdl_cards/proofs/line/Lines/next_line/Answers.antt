@@ -1,4 +1,4 @@
-use Rattle.std.proofs.Common.{sym, ◌∙◌, refl, arith}
+use Rattle.std.proofs.Common.{sym, ◌∙◌, refl}
 use Rattle.cdl_cards.proofs.LineEnds.{line_at, no_line, has_line, is_shorter, line_size}
 use Rattle.cdl_cards.proofs.line.Lines.next_line.Goals as goal
 

@@ -1,5 +1,5 @@
 use Rattle.std.proofs.Common.{sym, ◌∙◌, refl, ap, subst, arith, ◌≡◌}
-use Rattle.cdl_cards.specs.Left.{Took, begun_left, going_left, lines_left}
+use Rattle.cdl_cards.specs.Left.{Took, lines_left}
 use Rattle.cdl_cards.specs.declared.kinds.LineKind.TheVariants as kinds
 use Rattle.cdl_cards.specs.declared.line.Lines.{Lines}
 use Rattle.cdl_cards.specs.declared.line.Line.{Line}

@@ -1,6 +1,6 @@
-use Rattle.std.proofs.Common.{sym, ◌∙◌, ap, subst, ◌≡◌, map, [], Ok, Err}
+use Rattle.std.proofs.Common.{sym, ◌∙◌, ap, subst, map, Ok, Err}
 use Rattle.cdl_cards.specs.Left.{card_left}
-use Rattle.cdl_reader.specs.Actions.{adds, begun_part, named_part, word_bytes}
+use Rattle.cdl_reader.specs.Actions.{adds, begun_part, word_bytes}
 use Rattle.cdl_reader.specs.Parts.{no_part}
 use Rattle.cdl_reader.specs.Told.{Agrees}
 use Rattle.cdl_reader.specs.Words.{first_fault, operands}

@@ -1,8 +1,6 @@
-use Rattle.std.proofs.Common.{sym, ◌∙◌, ap, ◌≡◌, ◌∷◌, Ok, refl}
+use Rattle.std.proofs.Common.{sym, ◌∙◌, ap, ◌∷◌, Ok, refl}
 use Rattle.cdl_cards.specs.Left.{card_left, word_of}
-use Rattle.cdl_reader.specs.Actions.{enter_part}
 use Rattle.cdl_reader.specs.declared.kinds.CardKind.TheVariants as kinds
-use Rattle.cdl_reader.specs.declared.part.Part.{Part}
 use Rattle.cdl_reader.proofs.Begins.{other_entered, readable, steps_along, unread}
 use Rattle.cdl_reader.proofs.part.Part.enter.Goals as goal
 

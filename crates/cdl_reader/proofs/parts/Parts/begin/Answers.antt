@@ -1,7 +1,6 @@
-use Rattle.std.proofs.Common.{sym, ◌∙◌, ap, ◌≡◌, ◌∷◌, [], Result, Err, arith}
+use Rattle.std.proofs.Common.{◌∙◌, ◌∷◌, [], Result, Err, arith}
 use Rattle.text_scan.specs.declared.refusal.FileRefusal.{FileRefusal}
 use Rattle.cdl_cards.specs.Left.{card_left, word_of}
-use Rattle.cdl_reader.specs.Words.{operands}
 use Rattle.cdl_reader.proofs.Begins.{begin_full, begin_opens, steps_along}
 use Rattle.cdl_reader.proofs.parts.Parts.begin.Goals as goal
 

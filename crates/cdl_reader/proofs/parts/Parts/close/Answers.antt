@@ -1,4 +1,3 @@
-use Rattle.std.proofs.Common.{sym, ◌∙◌, ap}
 use Rattle.cdl_cards.specs.Left.{card_left, word_of}
 use Rattle.cdl_reader.specs.Actions.{close}
 use Rattle.cdl_reader.proofs.Begins.{closes_so, told_steps}

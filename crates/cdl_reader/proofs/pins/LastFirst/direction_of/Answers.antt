@@ -1,4 +1,4 @@
-use Rattle.std.proofs.Common.{sym, ◌∙◌, ap, ◌≡◌}
+use Rattle.std.proofs.Common.{◌∙◌, ap}
 use Rattle.cdl_reader.specs.Pins.{direction_at}
 use Rattle.cdl_reader.proofs.LastTold.{told_last}
 use Rattle.cdl_reader.proofs.pins.LastFirst.direction_of.Goals as goal

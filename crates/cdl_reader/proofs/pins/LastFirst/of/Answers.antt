@@ -1,4 +1,4 @@
-use Rattle.std.proofs.Common.{sym, ◌∙◌, ap, ◌≡◌, length, refl}
+use Rattle.std.proofs.Common.{sym, ◌∙◌, length, refl}
 use Rattle.cdl_reader.specs.Pins.{told_pin, told_direction}
 use Rattle.cdl_reader.proofs.LastTold.{flipped_none, kept_more}
 use Rattle.cdl_reader.proofs.pins.LastFirst.of.Goals as goal

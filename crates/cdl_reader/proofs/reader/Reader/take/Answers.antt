@@ -1,4 +1,4 @@
-use Rattle.std.proofs.Common.{sym, ◌∙◌, ◌∷◌}
+use Rattle.std.proofs.Common.{◌∷◌}
 use Rattle.cdl_cards.specs.Left.{card_left, word_of}
 use Rattle.cdl_reader.proofs.Begins.{steps_along, stops_at, taken_in_outside, taken_in_inside, taken_in_nameless}
 use Rattle.cdl_reader.proofs.reader.Reader.take.Goals as goal
