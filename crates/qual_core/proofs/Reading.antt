@@ -1,5 +1,5 @@
 -- What the bytes of a file are read as is one thing.
-use Rattle.std.proofs.Common.{◌≡◌, ◌≤◌, ◌<◌, ℕ, List, Result, Ok, Err, codes, refl, sym, ◌∙◌, ap, arith, length}
+use Rattle.std.proofs.Common.{◌≡◌, ◌≤◌, ◌<◌, ℕ, List, ◌++◌, append_assoc, Result, Ok, Err, codes, refl, sym, ◌∙◌, ap, arith, length}
 use Rattle.text_scan.specs.declared.refusal.FileRefusal.{FileRefusal}
 use Rattle.text_scan.specs.declared.refusal.FileRefusal.TheVariants.{NoMemory, Syntax, TooMany, DoubleName}
 use Rattle.liberty_source.specs.declared.Library.{Library}
@@ -49,6 +49,15 @@ pub one_source : (bytes : List ℕ) (result : Result Source FileRefusal) → IsT
     → (r : Result Source FileRefusal) → IsToldResult r → IsSource bytes r → r ≡ result
 one_source bytes result t only r s i = sym (agrees_verilog r _ s i.agrees) ∙ agrees_verilog result _ t (only i.answer i.is)
 
+same_ok : {A B : Type 0} (r s : Result A B) (x y : A) → r ≡ Ok x → s ≡ Ok y → r ≡ s → x ≡ y
+same_ok r s x y p q e = cc
+
+same_err : {A B : Type 0} (r s : Result A B) (x y : B) → r ≡ Err x → s ≡ Err y → r ≡ s → x ≡ y
+same_err r s x y p q e = cc
+
+apart : {A B : Type 0} (r s : Result A B) (x : A) (y : B) → r ≡ Ok x → s ≡ Err y → r ≡ s → ⊥
+apart r s x y p q e = cc
+
 module _ {X : Type 0} (file : FileOption) (bytes : List ℕ) (answers : Result X FileRefusal → Type 0) where
   -- what IsLibraryRead and IsSourceRead say
   abbrev pub IsReadAs : Result X (List ℕ) → Type 0
@@ -56,20 +65,26 @@ module _ {X : Type 0} (file : FileOption) (bytes : List ℕ) (answers : Result X
   IsReadAs (Err line) = IsRefusedFile (λ e. answers (Err e)) file bytes line
 
   pub only_ok : (x : X) → length bytes ≤ MAX_FILE → ((r : Result X FileRefusal) → IsToldResult r → answers r → r ≡ Ok x) → (other : Result X (List ℕ)) → IsReadAs other → other ≡ Ok x
-  only_ok x fits one (Ok y) h = let e : Ok {X} {FileRefusal} y ≡ Ok x = one (Ok y) tt h.1 in let f : y ≡ x = cc in ap (λ z. Ok z) f
+  only_ok x fits one (Ok y) h = ap (λ z. Ok z) (same_ok _ _ y x refl refl (one (Ok y) tt h.1))
   only_ok x fits one (Err line) (too_long l q) = absurd (omega arith)
-  only_ok x fits one (Err line) (refused l e a t q) = absurd (let f : Err {X} {FileRefusal} e ≡ Ok x = one (Err e) t a in cc)
+  only_ok x fits one (Err line) (refused l e a t q) = absurd (apart _ _ x e refl refl (sym (one (Err e) t a)))
 
   pub only_err : (e : FileRefusal) (line : List ℕ) → length bytes ≤ MAX_FILE → line ≡ refusal_line file (refusal_words e)
       → ((r : Result X FileRefusal) → IsToldResult r → answers r → r ≡ Err e) → (other : Result X (List ℕ)) → IsReadAs other → other ≡ Err line
-  only_err e line fits told one (Ok y) h = absurd (let f : Ok {X} {FileRefusal} y ≡ Err e = one (Ok y) tt h.1 in cc)
+  only_err e line fits told one (Ok y) h = absurd (apart _ _ y e refl refl (one (Ok y) tt h.1))
   only_err e line fits told one (Err other) (too_long l q) = absurd (omega arith)
   only_err e line fits told one (Err other) (refused l d a t q) =
-      let f : Err {X} {FileRefusal} d ≡ Err e = one (Err d) t a in
-      let g : d ≡ e = cc in
-      ap (λ z. Err z) (q ∙ ap (λ k. refusal_line file (refusal_words k)) g ∙ sym told)
+      ap (λ z. Err z) (q ∙ ap (λ k. refusal_line file (refusal_words k)) (same_err _ _ d e refl refl (one (Err d) t a)) ∙ sym told)
 
   pub only_long : (line : List ℕ) → MAX_FILE < length bytes → line ≡ refusal_line file (codes "too long") → (other : Result X (List ℕ)) → IsReadAs other → other ≡ Err line
   only_long line long told (Ok y) h = absurd (let f = h.0 in omega arith)
   only_long line long told (Err other) (too_long l q) = ap (λ z. Err z) (q ∙ sym told)
   only_long line long told (Err other) (refused l d a t q) = absurd (omega arith)
+
+pub library_as : (bytes : List ℕ) (other : Result Library (List ℕ)) → IsLibraryRead bytes other → IsReadAs Liberty bytes (IsLibrary bytes) other
+library_as bytes (Ok l) h = h
+library_as bytes (Err line) h = h
+
+-- words with two numbers, put behind others
+pub two_numbers : (old new told a word m b n : List ℕ) → new ≡ old ++ a ++ word ++ m ++ n → word ≡ b → told ≡ a ++ b ++ m ++ n → new ≡ old ++ told
+two_numbers old new words a word m b n e f g = rw (g, e, f) (simp append_assoc)

@@ -1,5 +1,5 @@
 -- What becomes of the words and the files that they name.
-use Rattle.std.specs.Prelude.{◌≡◌, ◌+◌, ◌==◌, if◌then◌else◌, ℕ, List, Option, Some, None, Ok, Err, codes}
+use Rattle.std.specs.Prelude.{◌≡◌, ◌&&◌, ◌==◌, if◌then◌else◌, ℕ, List, Option, Some, None, Ok, Err, codes}
 use Rattle.liberty_source.specs.declared.Library.{Library}
 use Rattle.verilog_source.specs.declared.Source.{Source}
 use Rattle.compare_text.specs.Text.{IsReport}
@@ -25,7 +25,7 @@ refused line = record { status = FileRefused; text = line }
 
 -- each cell is equal, or not
 abbrev pub totals_status : Totals → Status
-totals_status t = if t.differs + t.refused == 0 then Done else Faulty
+totals_status t = if t.differs == 0 && t.refused == 0 then Done else Faulty
 
 abbrev pub report_reply : CompareReport → Reply
 report_reply report = record { status = totals_status report.totals; text = report.text }

@@ -1,8 +1,9 @@
 // The files that the words name.
-ghost use Rattle.std.specs.Prelude.{◌≡◌, ◌≤◌, ◌++◌, ◌∷◌, [], List, ℕ, Some, Result, Err, IsTrue, IsSome, IfOk, IfSome, IsErrOf, codes, decimal, length, string_bytes};
+ghost use Rattle.std.specs.Prelude.{◌≡◌, ◌≤◌, ◌++◌, ◌∷◌, [], List, ℕ, Some, Result, Err, IsTrue, IsSome, IfOk, IfSome, OnOk, IsErrOf, codes, decimal, length, string_bytes};
 ghost use Rattle.liberty_source.specs.declared.Library.{Library};
 ghost use Rattle.verilog_source.specs.declared.Source.{Source};
 ghost use Rattle.qual_core.specs.Files.{MAX_FILE, IsTold, refusal_words, refusal_line, IsRefusedFile, IsLibraryRead, IsSourceRead, IsLibrary, IsSource};
+ghost use Rattle.qual_core.specs.Command.{file_word};
 ghost use Rattle.qual_core.specs.Top.{IsRead, IsLibraryOf, IsSourceOf, Blames, AsksFor};
 ghost use Rattle.qual_core.specs.declared.files.Failure.TheVariants.{NoMemory};
 ghost use Rattle.desk_ports.specs.Faults.{NoneFails};
@@ -36,13 +37,6 @@ impl From<AllocError> for Failure {
 }
 
 // ---- refused files
-
-fn syntax_words(alloc: Global, line: u32, column: u32) -> Result<String, Failure>
-    ensures ok { IfOk result (λ s. string_bytes s ≡ codes "syntax line " ++ decimal line ++ codes " column " ++ decimal column) }
-    ensures cause { IsErrOf result Failure.ReadFault → ⊥ }
-{
-    Ok(format!(in alloc; "syntax line {line} column {column}")?)
-}
 
 fn number(alloc: Global, n: u32) -> Result<String, Failure>
     ensures ok { IfOk result (λ s. string_bytes s ≡ decimal n) }
@@ -79,12 +73,21 @@ fn put_counted(
 
 fn put_refusal(alloc: Global, text: &mut Vec<u8>, refusal: &FileRefusal) -> Result<(), Failure>
     ensures ok { OnOk result (text.new.items ≡ text.old.items ++ refusal_words refusal.now) }
+    ensures told { OnOk result (IsTold refusal.now) }
     ensures cause { IsErrOf result Failure.ReadFault → ⊥ }
 {
     match refusal {
         FileRefusal::NoMemory => Err(Failure::NoMemory),
         FileRefusal::Syntax { line, column } => {
-            put(text, syntax_words(alloc, *line, *column)?.as_bytes())
+            let line = number(alloc, *line)?;
+            put_counted(
+                alloc,
+                text,
+                "syntax line ",
+                line.as_bytes(),
+                " column ",
+                *column,
+            )
         }
         FileRefusal::TooMany { kind, number } => {
             put_counted(

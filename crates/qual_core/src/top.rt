@@ -1,5 +1,5 @@
 // The top call.
-ghost use Rattle.std.specs.Prelude.{◌≡◌, ◌≢◌, ◌<◌, ◌+◌, ◌^◌, ◌++◌, ◌∷◌, ◌⊎◌, [], None, Some, IsTrue, IfOk, IsErrOf, get_or, length};
+ghost use Rattle.std.specs.Prelude.{◌≡◌, ◌≢◌, ◌<◌, ◌++◌, ◌∷◌, ◌⊎◌, [], None, Some, IsTrue, IfOk, IsErrOf, get_or, length};
 ghost use Rattle.desk_ports.specs.Faults.{NoneFails};
 ghost use Rattle.compare_text.specs.Blocks.{SaysEqualTruly};
 ghost use Rattle.qual_core.specs.Command.{texts, command_of, names, word_at};
@@ -39,10 +39,9 @@ fn reply_with(alloc: Global, status: Status, text: &str) -> Result<Reply, Failur
 }
 
 fn totals_status(totals: Totals) -> Status
-    requires { totals.differs + totals.refused < 2 ^ 64 }
     ensures { result ≡ totals_status totals }
 {
-    if totals.differs + totals.refused == 0 {
+    if totals.differs == 0 && totals.refused == 0 {
         Status::Done
     } else {
         Status::Faulty
