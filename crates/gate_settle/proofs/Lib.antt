@@ -1,8 +1,11 @@
 pub mod Settling
 pub mod Sorting
 pub mod Loops
+pub mod Waiting
 pub mod Moving
+pub mod Search
+pub mod Path
+pub mod Feeding
 pub mod Counting
-pub mod Reaching
 pub mod Joining
 pub mod Monotony

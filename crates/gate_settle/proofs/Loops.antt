@@ -330,7 +330,7 @@ after_off_keeps : (gates : List Gate) (known : List Bool) (k : ℕ) → is_known
 after_off_keeps [] known k h = h
 after_off_keeps (g ∷ gates) known k h = after_off_keeps gates (marked g.outputs false known) k (marked_off_keeps g.outputs known k h)
 
-after_off : (gates : List Gate) (known : List Bool) (k : ℕ) → k < length known → is_driven gates k ≡ true → is_known (known_after gates false known) k ≡ false
+pub after_off : (gates : List Gate) (known : List Bool) (k : ℕ) → k < length known → is_driven gates k ≡ true → is_known (known_after gates false known) k ≡ false
 after_off [] known k lt h = absurd (cc)
 after_off (g ∷ gates) known k lt h =
     let long : length (marked g.outputs false known) ≡ length known = marked_long g.outputs false known in
@@ -354,7 +354,7 @@ finds_input known (Net n ∷ inputs) h = elim (one_false (is_known known n) (all
 ]
 finds_input known (Constant v ∷ inputs) h = let r = finds_input known inputs h in (r.0, r.1, r.2)
 
-all_are_unknown : (known : List Bool) (os : List ℕ) → ((o : ℕ) → is_among os o ≡ true → is_known known o ≡ false) → all_unknown known os ≡ true
+pub all_are_unknown : (known : List Bool) (os : List ℕ) → ((o : ℕ) → is_among os o ≡ true → is_known known o ≡ false) → all_unknown known os ≡ true
 all_are_unknown known [] h = refl
 all_are_unknown known (o ∷ os) h = each_true (not (is_known known o)) (all_unknown known os) (ap not (h o (first_true (o == o) (is_among os o) (eq_self o)))) (all_are_unknown known os (λ k a. h k (second_true (o == k) (is_among os k) a)))
 
@@ -442,7 +442,7 @@ driven_same sorted all h k =
 pub first_long : (nets : ℕ) (gates : List Gate) → length (known_at_first nets gates) ≡ nets
 first_long nets gates = after_length gates false (replicate nets true) ∙ replicate_long nets
 
-among_times : (os : List ℕ) (k : ℕ) → is_among os k ≡ true → 0 < times os k
+pub among_times : (os : List ℕ) (k : ℕ) → is_among os k ≡ true → 0 < times os k
 among_times [] k h = absurd (cc)
 among_times (o ∷ os) k h = elim (either (o == k) (is_among os k) h) [
   | inl e ↦ let t : times (o ∷ os) k ≡ 1 + times os k = ap (λ v. (if v then 1 else 0) + times os k) e in omega (arith, t)

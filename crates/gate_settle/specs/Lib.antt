@@ -4,5 +4,6 @@ pub mod Settled
 pub mod Network
 pub mod Claims
 pub mod Reach
-pub mod Marking
+pub mod Waiting
+pub mod Search
 pub mod Connecting

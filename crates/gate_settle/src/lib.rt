@@ -4,11 +4,13 @@
 
 mod claims;
 mod connecting;
+mod feeders;
 mod gate;
 pub mod laws;
 mod network;
 mod order;
 mod reach;
+mod rows;
 mod settle;
 
 pub use connecting::{ConnectRefusal, connect};

@@ -103,6 +103,8 @@ fn why_gates_make_no_network_is_told(rt: HostRuntime) -> Result<(), Fail> {
     let alloc = rt.alloc();
     let loops = logic(&rt, alloc, (true, &[3], 2), (false, &[0, 2], 3))?;
     assert!(rt; matches!(&loops, Err(ConnectRefusal::Loop(2))));
+    let fed_by_a_loop = logic(&rt, alloc, (true, &[3], 2), (false, &[0, 3], 3))?;
+    assert!(rt; matches!(&fed_by_a_loop, Err(ConnectRefusal::Loop(3))));
     let twice = logic(&rt, alloc, (true, &[0], 3), (false, &[0, 1], 3))?;
     assert!(rt; matches!(&twice, Err(ConnectRefusal::TwoDrivers(3))));
     Ok(())

@@ -1,7 +1,8 @@
 -- How a run ends, by its status.
-use Rattle.std.proofs.Common.{◌≡◌, ◌≤◌, inl, ℕ, List, ◌++◌, Option, Some, None, refl, ap}
-use Rattle.qual_core.specs.Outcome.{usage}
-use Rattle.qual_core.specs.Top.{Blames, IsVerdict, IsUsageOrVerdict, IsAnswer, UsageExactly, Writes}
+use Rattle.std.proofs.Common.{◌≡◌, ◌≤◌, inl, ℕ, List, ◌++◌, Option, Some, None, IsSome, refl, sym, ◌∙◌, ap, subst, rules}
+use Rattle.qual_core.specs.Command.{command_of}
+use Rattle.qual_core.specs.Outcome.{usage, refused, IsReplyTo, IsOutcome}
+use Rattle.qual_core.specs.Top.{Blames, IsVerdict, IsDoneOrFaulty, IsUsageOrVerdict, IsAnswer, IsRefusal, UsageExactly, AnswersExactly, Writes, WritesTruly, IsAnswerTo}
 use Rattle.qual_core.specs.declared.command.Command.{Command}
 use Rattle.qual_core.specs.declared.reply.Reply.{Reply}
 use Rattle.qual_core.specs.declared.reply.Status.{Status}
@@ -51,3 +52,31 @@ writes_whole FileRefused outcome old new reply h o e w = (reply, o, e, w)
 writes_whole ReadFault outcome old new reply h o e w = absurd h
 writes_whole WriteFault outcome old new reply h o e w = absurd h
 writes_whole NoMemory outcome old new reply h o e w = absurd h
+
+-- what was written says what is so
+pub writes_truly : (status : Status) (words : List (List ℕ)) (file : List ℕ → Option (List ℕ)) (old new : List ℕ) (reply : Reply) → IsAnswer status → IsAnswerTo words file reply → reply.status ≡ status → new ≡ old ++ reply.text → WritesTruly status words file old new
+writes_truly Done words file old new reply h a e w = let t = a.truly (subst IsDoneOrFaulty (sym e) tt) in (t.0, reply.text, w, t.1)
+writes_truly Faulty words file old new reply h a e w = let t = a.truly (subst IsDoneOrFaulty (sym e) tt) in (t.0, reply.text, w, t.1)
+writes_truly Usage words file old new reply h a e w = tt
+writes_truly FileRefused words file old new reply h a e w = tt
+writes_truly ReadFault words file old new reply h a e w = tt
+writes_truly WriteFault words file old new reply h a e w = absurd h
+writes_truly NoMemory words file old new reply h a e w = tt
+
+some_command : (command : Option Command) (words : List (List ℕ)) (file : List ℕ → Option (List ℕ)) (reply : Reply) → IsReplyTo command words file reply → reply.status ≡ FileRefused → IsSome command
+some_command None words file reply o e = absurd (let f : Usage ≡ FileRefused = sym (ap (λ (r : Reply). r.status) o) ∙ e in cc)
+some_command (Some c) words file reply o e = search rules
+
+-- an outcome that refuses is that of a file
+refusal_of : (words : List (List ℕ)) (file : List ℕ → Option (List ℕ)) (reply : Reply) → IsOutcome words file reply → reply.status ≡ FileRefused → IsRefusal words file reply.text
+refusal_of words file reply o e =
+    let same : reply ≡ refused reply.text = ap (λ s. record { status = s; text = reply.text }) e in
+    (some_command (command_of words) words file reply o e, subst (λ r. IsOutcome words file r) same o)
+
+pub answers_exactly : (words : List (List ℕ)) (file : List ℕ → Option (List ℕ)) (reply : Reply) (no_fault : Type 0) → IsAnswer reply.status → IsAnswerTo words file reply → AnswersExactly reply.status words file no_fault
+answers_exactly words file reply no_fault h a = record {
+  only = λ _. (reply, a.outcome, refl);
+  comes = λ other o nf. inl h;
+  refused_only = λ e. (reply.text, refusal_of words file reply a.outcome e);
+  refused_comes = λ line r nf. inl (a.refused_exactly line r);
+}

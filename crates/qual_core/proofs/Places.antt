@@ -3,9 +3,9 @@ use Rattle.std.proofs.Common.{◌≡◌, ◌<◌, ◌+◌, ℕ, zero, suc, get_o
 use Rattle.std.specs.declared.alloc.Global.{Global}
 use Rattle.qual_core.specs.Names.{is_among}
 use Rattle.qual_core.specs.Command.{texts, options, option_word, files_needed, are_options_of, has_needed, place_from, files_named, name_of, named_command, command_of, word_at, name_beside, names}
-use Rattle.qual_core.specs.Outcome.{IsCompareReply, IsReplyOf}
+use Rattle.qual_core.specs.Top.{IsCompareAnswer}
 use Rattle.qual_core.specs.declared.reply.Reply.{Reply}
-use Rattle.qual_core.specs.declared.views.Failure.{Failure}
+use Rattle.qual_core.specs.declared.files.Failure.{Failure}
 use Rattle.qual_core.specs.declared.command.Command.{Command}
 use Rattle.qual_core.specs.declared.command.CommandName.{CommandName}
 use Rattle.qual_core.specs.declared.command.CommandName.TheVariants.{Compare}
@@ -103,9 +103,9 @@ pub text_count : (words : List (String Global)) → length (texts words) ≡ len
 text_count [] = refl
 text_count (w ∷ words) = ap suc (text_count words)
 
--- what holds of a comparison of the names of the words
-pub reply_named : (r : Result Reply Failure) (words : List (List ℕ)) (c : Command) (file : List ℕ → Option (List ℕ)) (a b : List ℕ) → command_of words ≡ Some c → a ≡ get_or (names words) 0 [] → b ≡ get_or (names words) 1 [] → IfOk r (λ reply. IsCompareReply a b file reply) → IfOk r (λ reply. IsReplyOf Compare words file reply)
-reply_named r words c file a b e p q h =
+-- what holds of the files of these names
+pub answer_named : (r : Result Reply Failure) (words : List (List ℕ)) (c : Command) (file : List ℕ → Option (List ℕ)) (a b : List ℕ) → command_of words ≡ Some c → a ≡ get_or (names words) 0 [] → b ≡ get_or (names words) 1 [] → IfOk r (IsCompareAnswer a b file) → IfOk r (IsCompareAnswer (name_beside words Liberty) (name_beside words Verilog) file)
+answer_named r words c file a b e p q h =
     let n = names_are words c e in
     let f : a ≡ name_beside words Liberty = rw n at p in
     let g : b ≡ name_beside words Verilog = rw n at q in

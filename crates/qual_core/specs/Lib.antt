@@ -1,14 +1,5 @@
-pub mod Tokens
-pub mod Reading
-pub mod Spelling
 pub mod Names
-pub mod Liberty
-pub mod LibertyReading
-pub mod Verilog
-pub mod VerilogReading
-pub mod Meaning
-pub mod Compare
-pub mod Outcome
-pub mod Network
 pub mod Command
+pub mod Files
+pub mod Outcome
 pub mod Top

@@ -1,16 +1,17 @@
 -- What a run answers, writes and asks for.
-use Rattle.std.specs.Prelude.{◌≡◌, ◌≤◌, ◌<◌, ◌+◌, ◌++◌, ◌⊎◌, ℕ, max, List, [], ◌∷◌, Option, Some, None, Bool, if◌then◌else◌, IsTrue, IsSome, IsSomeAnd, Vec, length}
+use Rattle.std.specs.Prelude.{◌≡◌, ◌≤◌, ◌<◌, ◌+◌, ◌++◌, ◌⊎◌, ℕ, max, List, [], ◌∷◌, Option, Some, None, Bool, if◌then◌else◌, IsTrue, IsSome, IsSomeAnd, Vec, length, Result, Ok, Err}
 use Rattle.std.specs.declared.alloc.Global.{Global}
 use Rattle.desk_ports.specs.Faults.{Rose}
 use Rattle.desk_ports.specs.Sink.{AppendsPart}
 use Rattle.desk_ports.specs.declared.asked.Asked.{Asked}
 use Rattle.qual_core.specs.Command.{command_of, name_beside}
-use Rattle.qual_core.specs.Meaning.{IsEqualEverywhere}
-use Rattle.qual_core.specs.Outcome.{usage, MAX_FILE, IsLiberty, IsVerilog}
+use Rattle.qual_core.specs.Files.{MAX_FILE, IsLibraryRead, IsSourceRead}
+use Rattle.qual_core.specs.Outcome.{usage, refused, IsCompareReply, IsOutcome}
+use Rattle.compare_text.specs.Blocks.{SaysEqualTruly}
+use Rattle.liberty_source.specs.declared.Library.{Library}
+use Rattle.verilog_source.specs.declared.Source.{Source}
 use Rattle.qual_core.specs.declared.command.Command.{Command}
 use Rattle.qual_core.specs.declared.command.FileOption.TheVariants.{Liberty, Verilog}
-use Rattle.qual_core.specs.declared.liberty.Cell.{Cell}
-use Rattle.qual_core.specs.declared.verilog.Module.{Module}
 use Rattle.qual_core.specs.declared.reply.Reply.{Reply}
 use Rattle.qual_core.specs.declared.reply.Status.{Status}
 use Rattle.qual_core.specs.declared.reply.Status.TheVariants.{Done, Faulty, Usage, FileRefused, ReadFault, WriteFault, NoMemory}
@@ -30,15 +31,18 @@ abbrev pub IsRead : Option (List ℕ) → Option (Vec ℕ Global) → Type 0
 IsRead file None = IsSomeAnd file (λ bytes. MAX_FILE < length bytes)
 IsRead file (Some bytes) = file ≡ Some bytes.items
 
--- the cell of these bytes, None where they are of none
-abbrev pub IsCellRead : List ℕ → Option Cell → Type 0
-IsCellRead bytes None = (cell : Cell) → IsLiberty bytes cell → ⊥
-IsCellRead bytes (Some cell) = IsLiberty bytes cell
+-- what was read of a file that is there, and nothing else can be
+pub record IsLibraryOf (file : Option (List ℕ)) (read : Result Library (List ℕ)) : Type 0 where
+  pub bytes : List ℕ
+  pub there : file ≡ Some bytes
+  pub is : IsLibraryRead bytes read
+  pub only : (other : Result Library (List ℕ)) → IsLibraryRead bytes other → other ≡ read
 
--- the module of these bytes for the cell, None where they are of none
-abbrev pub IsModuleRead : Cell → List ℕ → Option Module → Type 0
-IsModuleRead cell bytes None = (m : Module) → IsVerilog cell bytes m → ⊥
-IsModuleRead cell bytes (Some m) = IsVerilog cell bytes m
+pub record IsSourceOf (file : Option (List ℕ)) (read : Result Source (List ℕ)) : Type 0 where
+  pub bytes : List ℕ
+  pub there : file ≡ Some bytes
+  pub is : IsSourceRead bytes read
+  pub only : (other : Result Source (List ℕ)) → IsSourceRead bytes other → other ≡ read
 
 -- the count of faults rose where the fault is told, and else stayed
 pub record Blames (fault : Type 0) (before now : ℕ) : Type 0 where
@@ -102,10 +106,17 @@ pub record UsageExactly (status : Status) (command : Option Command) (no_fault :
   pub only : status ≡ Usage → command ≡ None
   pub comes : command ≡ None → no_fault → IsOrNoMemory status Usage
 
--- An answer comes only where it is the outcome's, and exactly there where no count rose.
-pub record AnswersExactly (status : Status) (outcome : Reply → Type 0) (no_fault : Type 0) : Type 0 where
-  pub only : IsAnswer status → (reply : Reply) × outcome reply × (reply.status ≡ status)
-  pub comes : (reply : Reply) → outcome reply → no_fault → IsOrNoMemory status reply.status
+-- the words are a command of files of which one is refused, the first in reading order, with this line
+abbrev pub IsRefusal : List (List ℕ) → (List ℕ → Option (List ℕ)) → List ℕ → Type 0
+IsRefusal words file line = IsSome (command_of words) × IsOutcome words file (refused line)
+
+-- An answer comes only where it is an outcome's, and one comes where there is an outcome and no count rose. A refused
+-- file is the answer exactly where one is refused.
+pub record AnswersExactly (status : Status) (words : List (List ℕ)) (file : List ℕ → Option (List ℕ)) (no_fault : Type 0) : Type 0 where
+  pub only : IsAnswer status → (reply : Reply) × IsOutcome words file reply × (reply.status ≡ status)
+  pub comes : (reply : Reply) → IsOutcome words file reply → no_fault → IsAnswer status ⊎ (status ≡ NoMemory)
+  pub refused_only : status ≡ FileRefused → (line : List ℕ) × IsRefusal words file line
+  pub refused_comes : (line : List ℕ) → IsRefusal words file line → no_fault → IsOrNoMemory status FileRefused
 
 -- What is written by each status: the outcome's text whole, a part of it after a fault of the sink, and else nothing.
 abbrev pub Writes : Status → (Reply → Type 0) → List ℕ → List ℕ → Type 0
@@ -114,26 +125,54 @@ Writes NoMemory outcome old new = new ≡ old
 Writes WriteFault outcome old new = (reply : Reply) × outcome reply × AppendsPart old new reply.text
 Writes status outcome old new = (reply : Reply) × outcome reply × (reply.status ≡ status) × (new ≡ old ++ reply.text)
 
--- the words are a command, and the files that they name are a Liberty file of the cell and a Verilog file of the module for it
+-- the files of these names are there, and are read as this library and this source text
+pub record AreBothRead (liberty verilog : List ℕ) (file : List ℕ → Option (List ℕ)) : Type 0 where
+  pub liberty_bytes : List ℕ
+  pub verilog_bytes : List ℕ
+  pub library : Library
+  pub source : Source
+  pub liberty_there : file liberty ≡ Some liberty_bytes
+  pub verilog_there : file verilog ≡ Some verilog_bytes
+  pub is_library : IsLibraryRead liberty_bytes (Ok library)
+  pub is_source : IsSourceRead verilog_bytes (Ok source)
+
+-- the words are a command, and the files that they name are read
 pub record AreAccepted (words : List (List ℕ)) (file : List ℕ → Option (List ℕ)) : Type 0 where
   pub command : IsSome (command_of words)
-  pub liberty : List ℕ
-  pub verilog : List ℕ
-  pub cell : Cell
-  pub circuit : Module
-  pub liberty_there : file (name_beside words Liberty) ≡ Some liberty
-  pub verilog_there : file (name_beside words Verilog) ≡ Some verilog
-  pub is_liberty : IsLiberty liberty cell
-  pub is_verilog : IsVerilog cell verilog circuit
-
--- and at every input vector the output has the value that Liberty gives it
-abbrev pub AreEqual : List (List ℕ) → (List ℕ → Option (List ℕ)) → Type 0
-AreEqual words file = (a : AreAccepted words file) × IsEqualEverywhere a.cell a.circuit
+  pub files : AreBothRead (name_beside words Liberty) (name_beside words Verilog) file
 
 abbrev pub IsDoneOrFaulty : Status → Type 0
 IsDoneOrFaulty Done = Unit {0}
 IsDoneOrFaulty Faulty = Unit {0}
 IsDoneOrFaulty status = ⊥
+
+-- Where the reply is a comparison, both files are read, and what its text says of a cell that is equal is so.
+abbrev pub SpeaksTruly : List (List ℕ) → (List ℕ → Option (List ℕ)) → Reply → Type 0
+SpeaksTruly words file reply =
+    IsDoneOrFaulty reply.status → (a : AreAccepted words file) × SaysEqualTruly a.files.library a.files.source reply.text
+
+-- the same of what was written, a part of it where the sink has failed
+abbrev pub WritesTruly : Status → List (List ℕ) → (List ℕ → Option (List ℕ)) → List ℕ → List ℕ → Type 0
+WritesTruly Done words file old new = (a : AreAccepted words file) × (text : List ℕ) × (new ≡ old ++ text) × SaysEqualTruly a.files.library a.files.source text
+WritesTruly Faulty words file old new = (a : AreAccepted words file) × (text : List ℕ) × (new ≡ old ++ text) × SaysEqualTruly a.files.library a.files.source text
+WritesTruly WriteFault words file old new = (reply : Reply) × AppendsPart old new reply.text × SpeaksTruly words file reply
+WritesTruly status words file old new = Unit {0}
+
+-- ---- what the calls below answer
+
+-- the reply for the files of these names
+pub record IsCompareAnswer (liberty verilog : List ℕ) (file : List ℕ → Option (List ℕ)) (reply : Reply) : Type 0 where
+  pub is : IsCompareReply liberty verilog file reply
+  pub refused_exactly : (line : List ℕ) → IsCompareReply liberty verilog file (refused line) → reply.status ≡ FileRefused
+  pub truly : IsDoneOrFaulty reply.status → (a : AreBothRead liberty verilog file) × SaysEqualTruly a.library a.source reply.text
+  pub accepted : AreBothRead liberty verilog file → IsDoneOrFaulty reply.status
+
+-- the reply for the words
+pub record IsAnswerTo (words : List (List ℕ)) (file : List ℕ → Option (List ℕ)) (reply : Reply) : Type 0 where
+  pub outcome : IsOutcome words file reply
+  pub refused_exactly : (line : List ℕ) → IsRefusal words file line → reply.status ≡ FileRefused
+  pub truly : SpeaksTruly words file reply
+  pub accepted : AreAccepted words file → IsDoneOrFaulty reply.status
 
 -- the whole text was written, and the status is Done or Faulty as it says
 abbrev pub IsWhole : Status → (Reply → Type 0) → List ℕ → List ℕ → Type 0

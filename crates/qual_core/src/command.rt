@@ -9,13 +9,13 @@ use text_scan::{Items, NoMemory, Text};
 /// What the program is to do.
 #[derive(Clone, Copy, Debug, PartialEq, Eq)]
 pub enum CommandName {
-    /// Compares a Liberty cell with a Verilog module of gates.
+    /// Compares the cells of a Liberty library with the Verilog modules of their names.
     Compare,
 }
 
 /// A file that an option names.
 #[derive(Clone, Copy, Debug, PartialEq, Eq)]
-enum FileOption {
+pub(crate) enum FileOption {
     Liberty,
     Verilog,
 }
@@ -49,7 +49,7 @@ impl CommandName {
 }
 
 impl FileOption {
-    fn word(self) -> &'static str
+    pub(crate) fn word(self) -> &'static str
         ensures { result.now ≡ file_word self }
     {
         match self {

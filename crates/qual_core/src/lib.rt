@@ -2,21 +2,11 @@
 #![tactic(auto)]
 
 mod command;
-mod compare;
-mod cursor;
-mod laws;
-mod liberty;
-mod names;
-mod network;
+mod files;
 mod reply;
-mod stop;
-mod text;
 mod top;
-mod verilog;
-mod views;
 
 pub use command::{Command, CommandName, command_of};
-pub use laws::one_outcome;
 pub use reply::Status;
 pub use top::qual;
 

@@ -7,13 +7,13 @@ use text_scan::Text;
 /// How a run ended. Its number is the program's exit status.
 #[derive(Clone, Copy, Debug, PartialEq, Eq)]
 pub enum Status {
-    /// The cell is equal.
+    /// Every cell is equal.
     Done,
-    /// It differs.
+    /// A cell differs or is refused.
     Faulty,
     /// The words are no command.
     Usage,
-    /// A file isn't in its form.
+    /// A file is refused.
     FileRefused,
     /// The shelf has failed.
     ReadFault,

@@ -48,13 +48,13 @@ fn two_files_are_compared(rt: HostRuntime) -> Result<(), Fail> {
             LIBERTY,
             LIBERTY,
             Status::FileRefused,
-            b"refused verilog not read yet\n".as_slice(),
+            b"refused verilog syntax line 1 column 1\n".as_slice(),
         ),
         (
             VERILOG,
             VERILOG,
             Status::FileRefused,
-            b"refused liberty not read yet\n".as_slice(),
+            b"refused liberty syntax line 1 column 1\n".as_slice(),
         ),
     ];
     let words = words_of(alloc, &WORDS)?;
@@ -158,20 +158,6 @@ fn a_failing_sink_is_a_write_fault(rt: HostRuntime) -> Result<(), Fail> {
 }
 
 #[test]
-fn a_file_has_at_most_1048576_bytes(rt: HostRuntime) -> Result<(), Fail> {
-    let alloc = rt.alloc();
-    let words = words_of(alloc, &WORDS)?;
-    for (more, status) in [(0, Status::Done), (1, Status::FileRefused)] {
-        let mut long = LIBERTY.to_vec(alloc)?;
-        long.resize(1048576 + more, b' ')?;
-        let mut shelf = shelf_of(alloc, &long, VERILOG, &[])?;
-        let mut out = MemSink::new(alloc, 200, Vec::new(alloc))?;
-        assert_eq!(rt; qual(alloc, &words, &mut shelf, &mut out), status);
-    }
-    Ok(())
-}
-
-#[test]
 fn a_refused_first_file_comes_before_a_missing_second(rt: HostRuntime) -> Result<(), Fail> {
     let alloc = rt.alloc();
     let words = words_of(alloc, &["compare", "--liberty", "b", "--verilog", "other"])?;
@@ -181,7 +167,10 @@ fn a_refused_first_file_comes_before_a_missing_second(rt: HostRuntime) -> Result
         qual(alloc, &words, &mut shelf, &mut out),
         Status::FileRefused
     );
-    assert_eq!(rt; out.written(), b"refused liberty not read yet\n".as_slice());
+    assert_eq!(rt;
+        out.written(),
+        b"refused liberty syntax line 1 column 1\n".as_slice()
+    );
     assert_eq!(rt; shelf.asked().starts, 1);
     let words = words_of(alloc, &["compare", "--liberty", "a", "--verilog", "other"])?;
     let mut shelf = shelf_of(alloc, LIBERTY, VERILOG, &[])?;

@@ -1,26 +1,22 @@
 // The top call.
-ghost use Rattle.std.specs.Prelude.{◌≡◌, ◌≢◌, ◌≤◌, ◌<◌, ◌++◌, ◌∷◌, ◌⊎◌, [], List, ℕ, Option, Some, None, IsTrue, IfOk, IfSome, IsErrOf, codes, get_or, length};
-ghost use Rattle.desk_ports.specs.Faults.{Rose, NoneFails};
+ghost use Rattle.std.specs.Prelude.{◌≡◌, ◌≢◌, ◌<◌, ◌++◌, ◌∷◌, ◌⊎◌, [], None, Some, IsTrue, IfOk, IsErrOf, get_or, length};
+ghost use Rattle.desk_ports.specs.Faults.{NoneFails};
+ghost use Rattle.compare_text.specs.Blocks.{SaysEqualTruly};
 ghost use Rattle.qual_core.specs.Command.{texts, command_of, names, word_at};
-ghost use Rattle.qual_core.specs.Outcome.{usage, IsCompareReply, IsReplyOf, IsOutcome};
-ghost use Rattle.qual_core.specs.Top.{Blames, AsksFor, AreThere, IsVerdict, IsUsageOrVerdict, NoCountRose, UsageExactly, AnswersExactly, Writes, AreAccepted, AreEqual, IsWhole, HasRoom};
-ghost use Rattle.qual_core.specs.Compare.{Says};
-ghost use Rattle.qual_core.specs.Liberty.{IsLibertyOf};
-ghost use Rattle.qual_core.specs.Verilog.{IsVerilogOf};
-ghost use Rattle.qual_core.specs.Outcome.{IsJudged};
-ghost use Rattle.qual_core.specs.declared.command.CommandName.TheVariants.{Compare};
-ghost use Rattle.qual_core.specs.declared.views.Failure.TheVariants.{NoMemory};
+ghost use Rattle.qual_core.specs.Outcome.{usage, totals_status, IsCompared, refused, IsOutcome};
+ghost use Rattle.qual_core.specs.Top.{Blames, AsksFor, AreThere, IsVerdict, IsDoneOrFaulty, IsUsageOrVerdict, NoCountRose, UsageExactly, AnswersExactly, Writes, WritesTruly, AreAccepted, IsWhole, HasRoom, IsCompareAnswer, IsAnswerTo};
+ghost use Rattle.qual_core.specs.declared.files.Failure.TheVariants.{NoMemory};
 
 use crate::command::{Command, CommandName, command_of};
-use crate::compare::compare_cell;
-use crate::liberty::Cell;
+use crate::files::{Failure, read_liberty, read_verilog};
 use crate::reply::{Reply, Status};
-use crate::stop::Stop;
-use crate::verilog::Module;
-use crate::views::{Failure, read_cell, read_module_of};
+use cell_compare::Models;
+use compare_text::{Totals, compare_library};
 use desk_ports::{Shelf, Sink};
+use liberty_source::Library;
 use std::alloc::Global;
 use text_scan::Text;
+use verilog_source::Source;
 
 const USAGE: &str = "usage: qual compare|check|replay|serve|sample --option value\n";
 
@@ -42,15 +38,37 @@ fn reply_with(alloc: Global, status: Status, text: &str) -> Result<Reply, Failur
     })
 }
 
-fn judged(alloc: Global, cell: &Cell, circuit: &Module) -> Result<Reply, Failure>
-    requires cell { (bytes : List ℕ) × IsLibertyOf bytes cell.now }
-    requires circuit { (bytes : List ℕ) × IsVerilogOf cell.now bytes circuit.now }
-    ensures judged { IfOk result (λ reply. IsJudged cell.now circuit.now reply) }
+fn totals_status(totals: Totals) -> Status
+    ensures { result ≡ totals_status totals }
+{
+    if totals.differs == 0 && totals.refused == 0 {
+        Status::Done
+    } else {
+        Status::Faulty
+    }
+}
+
+// The reply for a library beside a source text.
+fn compared(alloc: Global, library: &Library, source: Source) -> Result<Reply, Failure>
+    ensures compared { IfOk result (IsCompared library.now source) }
+    ensures verdict { IfOk result (λ reply. IsDoneOrFaulty reply.status) }
+    ensures truly { IfOk result (λ reply. SaysEqualTruly library.now source reply.text) }
     ensures cause { IsErrOf result Failure.ReadFault → ⊥ }
 {
-    match compare_cell(alloc, cell, circuit) {
-        Ok(reply) => Ok(reply),
-        Err(_) => Err(Failure::NoMemory),
+    let models = Models::new(alloc, source)?;
+    let report = compare_library(alloc, library, &models)?;
+    Ok(Reply {
+        status: totals_status(report.totals),
+        text: report.text,
+    })
+}
+
+fn refused(line: Text) -> Reply
+    ensures { result ≡ refused line }
+{
+    Reply {
+        status: Status::FileRefused,
+        text: line,
     }
 }
 
@@ -61,7 +79,7 @@ fn compare_files<S: Shelf>(
     verilog: &str,
 ) -> Result<Reply, Failure>
     ensures reply { IsTrue S.tells
-        → IfOk result (λ reply. IsCompareReply liberty.now verilog.now (S.file shelf.old) reply) }
+        → IfOk result (IsCompareAnswer liberty.now verilog.now (S.file shelf.old)) }
     ensures verdict { IfOk result (λ reply. IsVerdict reply.status) }
     ensures cause { Blames (IsErrOf result Failure.ReadFault) (S.faults shelf.old) (S.faults shelf.new) }
     ensures succeeds { IsTrue S.tells → NoneFails (S.fails shelf.old)
@@ -70,13 +88,14 @@ fn compare_files<S: Shelf>(
         (S.expects shelf.old) (S.asked shelf.old) (S.asked shelf.new) }
     ensures files { S.file shelf.new ≡ S.file shelf.old }
 {
-    let Some(cell) = read_cell(alloc, shelf, liberty)? else {
-        return reply_with(alloc, Status::FileRefused, "refused liberty not read yet\n");
+    let library = match read_liberty(alloc, shelf, liberty)? {
+        Ok(library) => library,
+        Err(line) => return Ok(refused(line)),
     };
-    let Some(circuit) = read_module_of(alloc, shelf, verilog, &cell)? else {
-        return reply_with(alloc, Status::FileRefused, "refused verilog not read yet\n");
-    };
-    judged(alloc, &cell, &circuit)
+    match read_verilog(alloc, shelf, verilog)? {
+        Ok(source) => compared(alloc, &library, source),
+        Err(line) => Ok(refused(line)),
+    }
 }
 
 // The place among the words of the name of the file with this index in reading order.
@@ -107,8 +126,7 @@ fn compare_named<S: Shelf>(
     command: &Command,
 ) -> Result<Reply, Failure>
     requires { command_of (texts words.now) ≡ Some command.now }
-    ensures reply { IsTrue S.tells
-        → IfOk result (λ reply. IsReplyOf Compare (texts words.now) (S.file shelf.old) reply) }
+    ensures reply { IsTrue S.tells → IfOk result (IsAnswerTo (texts words.now) (S.file shelf.old)) }
     ensures verdict { IfOk result (λ reply. IsVerdict reply.status) }
     ensures cause { Blames (IsErrOf result Failure.ReadFault) (S.faults shelf.old) (S.faults shelf.new) }
     ensures succeeds { IsTrue S.tells → NoneFails (S.fails shelf.old)
@@ -124,8 +142,7 @@ fn compare_named<S: Shelf>(
 
 // What is to be answered and written for the words.
 fn reply_to<S: Shelf>(alloc: Global, words: &[String], shelf: &mut S) -> Result<Reply, Failure>
-    ensures reply { IsTrue S.tells
-        → IfOk result (λ reply. IsOutcome (texts words.now) (S.file shelf.old) reply) }
+    ensures reply { IsTrue S.tells → IfOk result (IsAnswerTo (texts words.now) (S.file shelf.old)) }
     ensures status { IfOk result (λ reply. IsUsageOrVerdict (command_of (texts words.now)) reply) }
     ensures cause { Blames (IsErrOf result Failure.ReadFault) (S.faults shelf.old) (S.faults shelf.new) }
     ensures no_command { command_of (texts words.now) ≡ None → IsErrOf result Failure.ReadFault → ⊥ }
@@ -145,19 +162,19 @@ fn reply_to<S: Shelf>(alloc: Global, words: &[String], shelf: &mut S) -> Result<
 
 /// Does what the words say: it reads the files that they name, and writes one text.
 ///
-/// It writes the usage line where the words are no command, and the line of a refused file where
-/// one isn't read in its form. It starts each file that the words name at most once, no other one,
-/// and takes at most 1,048,577 bytes of each.
+/// It writes the usage line where the words are no command, and the line of a refused file where one is too long or
+/// isn't read. Else it compares the cells of the library with the modules of their names, each on its own. It starts
+/// each file that the words name at most once, no other one, and takes at most 134,217,729 bytes of each.
 pub fn qual<S: Shelf, K: Sink>(
     alloc: Global,
     words: &[String],
     shelf: &mut S,
     out: &mut K,
 ) -> Status
-    // Where the text written says that the cell is equal, it is.
-    ensures equal { IsTrue S.tells → IsTrue K.tells → (text : List ℕ)
-        → K.written out.new ≡ K.written out.old ++ text → Says text (codes "verdict equal")
-        → AreEqual (texts words.now) (S.file shelf.old) }
+    // Where the text written says that a cell is equal, it is: each output that Liberty defines has its value in
+    // Verilog, at every vector of input values.
+    ensures equal { IsTrue S.tells → IsTrue K.tells
+        → WritesTruly result (texts words.now) (S.file shelf.old) (K.written out.old) (K.written out.new) }
 
     // The bytes written are those of the outcome.
     ensures text { IsTrue S.tells → IsTrue K.tells → Writes result
@@ -170,8 +187,8 @@ pub fn qual<S: Shelf, K: Sink>(
     ensures write_fault { Blames (result ≡ Status.WriteFault) (K.faults out.old) (K.faults out.new) }
     ensures usage { UsageExactly result (command_of (texts words.now)) (NoCountRose
         (S.faults shelf.old) (S.faults shelf.new) (K.faults out.old) (K.faults out.new)) }
-    ensures answer { IsTrue S.tells → AnswersExactly result (IsOutcome (texts words.now) (S.file shelf.old))
-        (NoCountRose (S.faults shelf.old) (S.faults shelf.new) (K.faults out.old) (K.faults out.new)) }
+    ensures answer { IsTrue S.tells → AnswersExactly result (texts words.now) (S.file shelf.old) (NoCountRose
+        (S.faults shelf.old) (S.faults shelf.new) (K.faults out.old) (K.faults out.new)) }
 
     // Two files that are accepted are compared, and the whole text is written.
     ensures complete { IsTrue S.tells → IsTrue K.tells → AreAccepted (texts words.now) (S.file shelf.old)

@@ -2,3 +2,4 @@ pub mod Machine
 pub mod Reading
 pub mod Entering
 pub mod Whole
+pub mod Joined

@@ -2,11 +2,13 @@
 #![tactic(auto)]
 
 mod fields;
+mod laws;
 mod names;
 mod parts;
 mod public_call;
 mod rows;
 
+pub use laws::joined_parts_are_told_apart;
 pub use public_call::read_tech;
 
 #[cfg(test)]

@@ -6,3 +6,7 @@ pub mod Turns
 pub mod NextTurn
 pub mod Branches
 pub mod Plain
+pub mod Skims
+pub mod Skimmed
+pub mod Behinds
+pub mod Fillers

@@ -17,6 +17,13 @@ held_none (Two a b) e = cc
 held_none (Three a b c) e = cc
 held_none (Four a b c d) e = cc
 
+pub few_held : (held : Held) → length (tokens held) ≤ 0 → tokens held ≡ []
+few_held Nothing e = refl
+few_held (One a) e = absurd (omega arith)
+few_held (Two a b) e = absurd (omega arith)
+few_held (Three a b c) e = absurd (omega arith)
+few_held (Four a b c d) e = absurd (omega arith)
+
 -- the first of the tokens that are held
 pub held_first : (held : Held) (t : Token) → Some t ≡ slice_get (tokens held) 0 → tokens held ≡ t ∷ drop 1 (tokens held)
 held_first Nothing t e = cc

@@ -11,7 +11,7 @@ use Rattle.verilog_directives.specs.declared.order.Order.{Order}
 use Rattle.verilog_directives.specs.declared.order.Order.TheVariants.{End, Pass, Show, PassLine, Define, Undefine, Open, Elsif, Else, Close}
 use Rattle.verilog_directives.specs.Left.{State, Goes, item, left_from, is_last, followed}
 use Rattle.verilog_directives.specs.Orders.{size, shown, state_after, turn_by, IsLawful}
-use Rattle.text_scan.specs.Left.{left}
+use Rattle.verilog_directives.specs.Behind.{moved_on}
 use Rattle.verilog_directives.specs.declared.lookahead.Lookahead.{Lookahead}
 use Rattle.verilog_directives.specs.Held.{tokens}
 use Rattle.verilog_directives.specs.Lookahead.{to_come}
@@ -69,4 +69,4 @@ fewer_left mark Close ts some none = omega (arith, length-drop 2 ts)
 -- what is held is to come
 pub held_comes : (l : Lookahead) → length (tokens l.held) ≤ length (to_come l)
 unfolding to_come
-held_comes l = omega (arith, length-append (tokens l.held) (left l.cursor))
+held_comes l = omega (arith, length-append (tokens l.held) (moved_on l.place l.cursor))

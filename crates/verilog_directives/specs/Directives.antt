@@ -1,12 +1,15 @@
 -- What directives have before them.
-use Rattle.std.specs.Prelude.{◌≡◌, ℕ, ◌≤◌, List, length, drop, Option, None, Some}
+use Rattle.std.specs.Prelude.{◌≡◌, ℕ, ◌≤◌, true, List, ◌++◌, length, drop, map, Option, None, Some}
+use Rattle.std.specs.List.{list_all}
 use Rattle.text_scan.specs.declared.token.Token.{Token}
 use Rattle.text_scan.specs.declared.limits.Limits.{Limits}
 use Rattle.verilog_directives.specs.declared.left.Left.{Left}
 use Rattle.verilog_directives.specs.declared.directives.Directives.{Directives}
 use Rattle.verilog_directives.specs.Lookahead.{to_come}
 use Rattle.verilog_directives.specs.Held.{tokens}
-use Rattle.verilog_directives.specs.Left.{State, Turn, taken, left_from, followed}
+use Rattle.verilog_directives.specs.declared.left.Role.TheVariants.{Plain}
+use Rattle.verilog_directives.specs.Left.{State, Turn, item, taken, left_from, followed}
+use Rattle.verilog_directives.specs.Skims.{is_filler}
 
 -- the text
 unfoldable pub source : Directives → List ℕ
@@ -27,6 +30,12 @@ before (Some i) items = followed i items
 -- what is left by a turn before these tokens
 unfoldable pub left_by : List ℕ → Limits → Turn → List Token → List Left
 left_by text limits turn ts = taken turn (λ s inside. left_from text limits s inside ts)
+
+-- plain tokens were gone over, all of them fillers
+pub record GoesOverFillers (old new : Directives) : Type 0 where
+  pub fillers : List Token
+  pub front : left old ≡ map (item Plain) fillers ++ left new
+  pub all : list_all (is_filler (source old)) fillers ≡ true
 
 -- the tokens after the next one
 abbrev pub rest : Directives → List Token

@@ -151,6 +151,12 @@ is_kept Free t = false
 is_kept (Passed line) t = false
 is_kept (Kept line) t = t.span.line == line
 
+-- the line of which the rest is passed over or stands as it is, if there is one
+abbrev pub line_of : Line → ℕ
+line_of Free = 0
+line_of (Passed line) = line
+line_of (Kept line) = line
+
 -- the turn of a token before others
 unfoldable pub turn : List ℕ → Limits → State → Token → List Token → Turn
 turn source limits s t ts =

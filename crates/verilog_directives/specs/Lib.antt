@@ -4,6 +4,8 @@ pub mod Conditions
 pub mod Left
 pub mod NameSet
 pub mod Held
+pub mod Behind
 pub mod Lookahead
 pub mod Orders
+pub mod Skims
 pub mod Directives

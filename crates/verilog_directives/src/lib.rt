@@ -14,7 +14,9 @@ mod names;
 mod obeying;
 mod order;
 mod ordering;
+mod search;
 mod signs;
+mod skim;
 mod word;
 
 pub use directives::Directives;

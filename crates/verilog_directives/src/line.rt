@@ -32,4 +32,14 @@ impl Line {
             Line::Free | Line::Passed(_) => false,
         }
     }
+
+    /// The line that it speaks of; 0 where there is none.
+    pub(crate) fn number(self) -> u32
+        ensures { result ≡ spec.line_of self }
+    {
+        match self {
+            Line::Free => 0,
+            Line::Passed(line) | Line::Kept(line) => line,
+        }
+    }
 }

@@ -1,15 +1,55 @@
 //! Reading tokens, and looking at those to come.
-ghost use Rattle.std.specs.Prelude.{◌≡◌, ◌<◌, ◌≤◌, ◌∷◌, ◌+◌, length, drop, slice_get, Some, true, false};
+ghost use Rattle.std.specs.Prelude.{◌≡◌, [], ◌<◌, ◌≤◌, ◌∷◌, ◌+◌, ◌-◌, ◌^◌, ◌==◌, if◌then◌else◌, min, length, drop, slice_get, Some, true, false};
 ghost use Rattle.text_scan.specs.declared.token.Style.TheVariants.{Verilog};
-ghost use Rattle.text_scan.specs.Left.{IsSliceOf, is_end as spec_is_end, followed};
+ghost use Rattle.text_scan.specs.Left.{IsSliceOf, is_end as spec_is_end, followed, tokens_at};
 ghost use Rattle.text_scan.specs.Tokens.{tokens_of};
+ghost use Rattle.text_scan.specs.Moved.{moved};
+ghost use Rattle.verilog_directives.specs.Behind.{IsCounted, moved_on};
 ghost use Rattle.verilog_directives.specs.Held as held;
 ghost use Rattle.verilog_directives.specs.Lookahead.{to_come};
+ghost use Rattle.verilog_directives.specs.Skims.{Skims};
 
 use crate::held::Held;
 use crate::lookahead::Lookahead;
 use crate::signs::is_end;
-use text_scan::{Cursor, Style, Token};
+use crate::skim::skimmed;
+use text_scan::{Cursor, Place, Span, Style, Token};
+
+const START: Place = Place {
+    at: 0,
+    line: 1,
+    column: 1,
+};
+
+// The column of a token whose text stands at this place of another one.
+fn moved_column(place: Place, span: Span) -> u32
+    ensures { result ≡ (if span.line == 1 then min (place.column + (span.column - 1)) 4294967295 else span.column) }
+{
+    if span.line == 1 {
+        place.column.saturating_add(span.column.saturating_sub(1))
+    } else {
+        span.column
+    }
+}
+
+// The token, where its text stands at this place of another one.
+#[tactic(auto, unfolding(text_scan::specs::Moved::moved, text_scan::specs::Moved::onward, text_scan::specs::Tokens::token))]
+fn moved(place: Place, token: Token) -> Token
+    requires start { place.at + token.span.start < 2 ^ 64 }
+    requires end { place.at + token.span.end < 2 ^ 64 }
+    ensures { result ≡ moved place token }
+{
+    let column = moved_column(place, token.span);
+    Token {
+        kind: token.kind,
+        span: Span {
+            line: place.line.saturating_add(token.span.line.saturating_sub(1)),
+            column,
+            start: place.at + token.span.start,
+            end: place.at + token.span.end,
+        },
+    }
+}
 
 impl<'s> Lookahead<'s> {
     #[tactic(auto, unfolding(crate::specs::Lookahead::to_come))]
@@ -19,9 +59,22 @@ impl<'s> Lookahead<'s> {
     {
         Lookahead {
             source,
+            place: START,
             cursor: Cursor::new(source, Style::Verilog),
             held: Held::Nothing,
         }
+    }
+
+    // The next token that isn't held.
+    fn scan(&mut self) -> Token
+        ensures source { self.new.source.now ≡ self.old.source.now }
+        ensures held { self.new.held ≡ self.old.held }
+        ensures next { moved_on self.old.place self.old.cursor ≡ followed result (moved_on self.new.place self.new.cursor) }
+        ensures end_stays { spec_is_end result.kind ≡ true → moved_on self.new.place self.new.cursor ≡ moved_on self.old.place self.old.cursor }
+        ensures slice { IsSliceOf self.new.source.now result }
+    {
+        let token = self.cursor.next_token();
+        moved(self.place, token)
     }
 
     /// The next token; after the last one the end, again and again.
@@ -38,7 +91,7 @@ impl<'s> Lookahead<'s> {
                 self.held = self.held.without_first();
                 token
             }
-            None => self.cursor.next_token(),
+            None => self.scan(),
         }
     }
 
@@ -66,7 +119,7 @@ impl<'s> Lookahead<'s> {
         ensures kept { length (held.tokens self.old.held) ≤ length (held.tokens self.new.held) }
         ensures slice { IsSliceOf self.new.source.now result }
     {
-        let token = self.cursor.next_token();
+        let token = self.scan();
         if !is_end(token.kind) {
             self.held = self.held.with_last(token);
         }
@@ -99,5 +152,42 @@ impl<'s> Lookahead<'s> {
         ensures to_come { to_come self.new ≡ drop n (to_come self.old) }
     {
         self.held = self.held.without(n);
+    }
+
+    // Begins again at this place.
+    fn stand_at(&mut self, place: Place)
+        requires within { place.at ≤ length self.old.source.now }
+        requires counted { IsCounted place }
+        requires none_held { held.tokens self.old.held ≡ [] }
+        ensures source { self.new.source.now ≡ self.old.source.now }
+        ensures to_come { to_come self.new ≡ tokens_at Verilog self.old.source.now place }
+    {
+        *self = Lookahead {
+            source: self.source,
+            place,
+            cursor: Cursor::new(&self.source[place.at..], Style::Verilog),
+            held: Held::Nothing,
+        };
+    }
+
+    /// Goes over fillers, as far as no other token comes, and none on this line. Where a token is held it stays where
+    /// it is.
+    pub(crate) fn skim(&mut self, line: u32)
+        ensures source { self.new.source.now ≡ self.old.source.now }
+        ensures skims { Skims self.old.source.now line (to_come self.old) (to_come self.new) }
+    {
+        if self.held.len() > 0 {
+            return;
+        }
+        let first = self.scan();
+        if is_end(first.kind) {
+            return;
+        }
+        let place = Place {
+            at: first.span.start,
+            line: first.span.line,
+            column: first.span.column,
+        };
+        self.stand_at(skimmed(self.source, line, place));
     }
 }

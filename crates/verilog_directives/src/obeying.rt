@@ -183,4 +183,15 @@ impl<'s> Directives<'s> {
             }
         }
     }
+
+    /// Goes over some tokens that are left, all of them plain, which say nothing to a reader that waits for a word that
+    /// begins with `end`: other words, and signs. It goes over many at once where text is read.
+    pub fn skim(&mut self)
+        ensures source { spec.source self.new ≡ spec.source self.old }
+        ensures skims { spec.GoesOverFillers self.old self.new }
+    {
+        if self.conditions.is_read() {
+            self.tokens.skim(self.line.number());
+        }
+    }
 }

@@ -276,3 +276,19 @@ fn names_of_words(rt: HostRuntime) {
     assert!(rt; is_reserved(b"xnor"));
     assert!(rt; !is_reserved(b"assign"));
 }
+
+#[test]
+fn words_and_signs_are_gone_over_at_once(rt: HostRuntime) -> Result<(), Fail> {
+    let text = b"`celldefine a\n (b) // endspecify\n 1.5;ender c".as_slice();
+    let limits = Limits::standard();
+    let mut directives = Directives::new(rt.alloc(), text, &limits);
+    directives.skim();
+    let first = directives.next(rt.alloc())?;
+    assert_eq!(&rt; first.token.text(text), b"(".as_slice());
+    directives.skim();
+    let second = directives.next(rt.alloc())?;
+    assert_eq!(&rt; second.token.text(text), b"ender".as_slice());
+    assert_eq!(&rt; second.token.span.line, 3u32);
+    assert_eq!(&rt; second.token.span.column, 6u32);
+    Ok(())
+}

@@ -6,3 +6,4 @@ pub mod Turns
 pub mod Counts
 pub mod Whole
 pub mod Public
+pub mod Fillers

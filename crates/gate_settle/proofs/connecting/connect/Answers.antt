@@ -1,4 +1,4 @@
-use Rattle.std.proofs.Common.{◌≡◌, ℕ, ◌<◌, true, List, length, Option, sym, ◌∙◌, ap, subst, rules}
+use Rattle.std.proofs.Common.{◌≡◌, ℕ, ◌<◌, true, List, length, Option, sym, ◌∙◌, ap, subst, arith, rules}
 use Rattle.std.specs.Prelude.{sum_by, MatchOption}
 use Rattle.gate_settle.specs.declared.gate.Gate.{Gate}
 use Rattle.gate_settle.specs.Order.{is_ordered, known_at_first, known_after, none_ready, DependsOn}
@@ -9,6 +9,15 @@ use Rattle.gate_settle.proofs.Moving.{own_arranged}
 use Rattle.gate_settle.proofs.Loops.{depends_same}
 use Rattle.gate_settle.proofs.Joining.{whole, ordered_whole, no_loop_whole, within_same, no_loop_same, waiting_loop}
 use Rattle.gate_settle.proofs.connecting.connect.Goals as goal
+
+pub arrange-requires : goal.arrange-requires
+arrange-requires c =
+    let nets : c.len-nets.result ≡ length c.args.given = search rules in
+    let one : HaveOneDriver c.args.given c.args.gates.items (length c.args.given) = search rules in
+    record {
+      within = subst (AreWithin c.args.gates.items) (sym nets) c.requires.within;
+      drivers = λ k lt. let h = one k (omega (arith, nets)) in omega (arith, h);
+    }
 
 pub invariant_of-result : goal.invariant_of-result
 invariant_of-result c =

@@ -1,28 +1,20 @@
-use Rattle.std.proofs.Common.{refl, ap, inl, inr, rules}
+use Rattle.std.proofs.Common.{refl, inr, rules}
 use Rattle.qual_core.specs.Command.{texts, command_of}
 use Rattle.qual_core.specs.Outcome.{IsOutcome}
-use Rattle.qual_core.specs.declared.reply.Reply.{Reply}
-use Rattle.qual_core.proofs.Saying.{nothing_says}
-use Rattle.qual_core.proofs.Outcomes.{whole_says, part_says}
-use Rattle.qual_core.proofs.Ends.{reply_answers, no_read_fault, no_write_fault, kept_blames, usage_exactly, usage_text, writes_whole}
-use Rattle.qual_core.proofs.One.{outcome_one, accepted_is_judged}
+use Rattle.qual_core.proofs.Ends.{reply_answers, no_read_fault, no_write_fault, kept_blames, usage_exactly, usage_text, writes_whole, writes_truly, answers_exactly}
 use Rattle.qual_core.proofs.top.qual.Goals as goal
 
-pub returns-in-Err-ReadFault-clause-equal : goal.returns-in-Err-ReadFault-clause-equal
-returns-in-Err-ReadFault-clause-equal g c told sink text f s = absurd (nothing_says text _ _ _ refl f s)
-
-pub returns-in-Err-NoMemory-clause-equal : goal.returns-in-Err-NoMemory-clause-equal
-returns-in-Err-NoMemory-clause-equal g c told sink text f s = absurd (nothing_says text _ _ _ refl f s)
-
 pub returns-in-Ok-put-clause-equal : goal.returns-in-Ok-put-clause-equal
-returns-in-Ok-put-clause-equal g c told sink text f s =
-    whole_says (texts c.args.words.now) (g.S.Shelf.file c.args.shelf.now) c.in-Ok.reply text (g.K.Sink.written c.args.out.now) _ (c.in-Ok.ensures.reply told)
-    (rw (← c.as_bytes.ensures) (c.in-Ok-put.ensures.ok sink)) f s
+returns-in-Ok-put-clause-equal g c told sink =
+    writes_truly c.in-Ok.reply.status (texts c.args.words.now) (g.S.Shelf.file c.args.shelf.now) (g.K.Sink.written c.args.out.now) _ c.in-Ok.reply
+    (reply_answers (command_of (texts c.args.words.now)) c.in-Ok.reply c.in-Ok.ensures.status) (c.in-Ok.ensures.reply told) refl
+    (rw (← c.as_bytes.ensures) (c.in-Ok-put.ensures.ok sink))
 
 pub returns-in-Ok-put-clause-text : goal.returns-in-Ok-put-clause-text
 returns-in-Ok-put-clause-text g c told sink =
+    let answer = c.in-Ok.ensures.reply told in
     writes_whole c.in-Ok.reply.status (IsOutcome (texts c.args.words.now) (g.S.Shelf.file c.args.shelf.now)) _ _ c.in-Ok.reply
-    (reply_answers (command_of (texts c.args.words.now)) c.in-Ok.reply c.in-Ok.ensures.status) (c.in-Ok.ensures.reply told) refl
+    (reply_answers (command_of (texts c.args.words.now)) c.in-Ok.reply c.in-Ok.ensures.status) answer.outcome refl
     (rw (← c.as_bytes.ensures) (c.in-Ok-put.ensures.ok sink))
 
 pub returns-in-Ok-put-clause-usage_line : goal.returns-in-Ok-put-clause-usage_line
@@ -44,18 +36,14 @@ pub returns-in-Ok-put-clause-usage : goal.returns-in-Ok-put-clause-usage
 returns-in-Ok-put-clause-usage g c = usage_exactly (command_of (texts c.args.words.now)) c.in-Ok.reply _ c.in-Ok.ensures.status
 
 pub returns-in-Ok-put-clause-answer : goal.returns-in-Ok-put-clause-answer
-returns-in-Ok-put-clause-answer g c told = record {
-  only = λ a. (c.in-Ok.reply, c.in-Ok.ensures.reply told, refl);
-  comes = λ reply o nf. inl (ap (λ (r : Reply). r.status)
-      (outcome_one (texts c.args.words.now) (g.S.Shelf.file c.args.shelf.now) c.in-Ok.reply reply (c.in-Ok.ensures.reply told) o));
-}
+returns-in-Ok-put-clause-answer g c told =
+    answers_exactly (texts c.args.words.now) (g.S.Shelf.file c.args.shelf.now) c.in-Ok.reply _
+    (reply_answers (command_of (texts c.args.words.now)) c.in-Ok.reply c.in-Ok.ensures.status) (c.in-Ok.ensures.reply told)
 
 pub returns-in-Ok-put-clause-complete : goal.returns-in-Ok-put-clause-complete
 returns-in-Ok-put-clause-complete g c told sink a nf =
-    inr (
-      accepted_is_judged (texts c.args.words.now) (g.S.Shelf.file c.args.shelf.now) c.in-Ok.reply a (c.in-Ok.ensures.reply told),
-      (c.in-Ok.reply, c.in-Ok.ensures.reply told, refl, rw (← c.as_bytes.ensures) (c.in-Ok-put.ensures.ok sink)),
-    )
+    let answer = c.in-Ok.ensures.reply told in
+    inr (answer.accepted a, (c.in-Ok.reply, answer.outcome, refl, rw (← c.as_bytes.ensures) (c.in-Ok-put.ensures.ok sink)))
 
 pub returns-in-Ok-put-clause-no_read_fault : goal.returns-in-Ok-put-clause-no_read_fault
 returns-in-Ok-put-clause-no_read_fault g c told none there =
@@ -64,8 +52,3 @@ returns-in-Ok-put-clause-no_read_fault g c told none there =
 pub returns-in-Ok-put-clause-no_write_fault : goal.returns-in-Ok-put-clause-no_write_fault
 returns-in-Ok-put-clause-no_write_fault g c told sink none room =
     no_write_fault c.in-Ok.reply.status (reply_answers (command_of (texts c.args.words.now)) c.in-Ok.reply c.in-Ok.ensures.status)
-
-pub returns-clause-equal : goal.returns-clause-equal
-returns-clause-equal g c told sink text f s =
-    part_says (texts c.args.words.now) (g.S.Shelf.file c.args.shelf.now) c.in-Ok.reply text (g.K.Sink.written c.args.out.now) _ (c.in-Ok.ensures.reply told)
-    (rw (← c.as_bytes.ensures) (c.in-Err.ensures.err sink)) f s

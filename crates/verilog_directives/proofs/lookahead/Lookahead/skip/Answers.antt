@@ -1,6 +1,6 @@
 use Rattle.std.proofs.Common.{◌++◌, sym, ap, ◌∙◌}
 use Rattle.std.proofs.lemmas.List.{drop-append-le}
-use Rattle.text_scan.specs.Left.{left}
+use Rattle.verilog_directives.specs.Behind.{moved_on}
 use Rattle.verilog_directives.specs.Held.{tokens}
 use Rattle.verilog_directives.specs.Lookahead.{to_come}
 use Rattle.verilog_directives.proofs.Looks.{inside_drop}
@@ -13,4 +13,4 @@ pub returns-clause-to_come : goal.returns-clause-to_come
 unfolding to_come
 returns-clause-to_come c =
     let self = c.args.self.now in
-    ap (λ z. z ++ left self.cursor) c.without-self.ensures ∙ sym (drop-append-le c.args.n (tokens self.held) (left self.cursor) c.requires)
+    ap (λ z. z ++ moved_on self.place self.cursor) c.without-self.ensures ∙ sym (drop-append-le c.args.n (tokens self.held) (moved_on self.place self.cursor) c.requires)

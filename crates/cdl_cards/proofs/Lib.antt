@@ -1,0 +1,5 @@
+pub mod LineEnds
+pub mod LineWords
+pub mod Places
+pub mod Same
+pub mod Turns

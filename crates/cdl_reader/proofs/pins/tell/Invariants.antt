@@ -1,0 +1,13 @@
+use Rattle.std.proofs.Common.{◌≡◌, ◌++◌, length}
+use Rattle.cdl_cards.specs.Left.{card_left, cards_left}
+use Rattle.cdl_reader.specs.Pins.{told_by_words}
+use Rattle.cdl_reader.proofs.pins.tell.Given as goal
+
+abbrev pub invariant-words : goal.invariant-words
+invariant-words l = record {
+  told : l.told ++ told_by_words (card_left l.cards) ≡ l.fn.told ++ told_by_words (card_left l.fn.cards);
+  cards : cards_left l.cards ≡ cards_left l.fn.cards;
+}
+
+abbrev pub decreases-words : goal.decreases-words
+decreases-words l = length (card_left l.cards)

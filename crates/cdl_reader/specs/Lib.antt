@@ -1,0 +1,8 @@
+pub mod Names
+pub mod Words
+pub mod Pins
+pub mod Parts
+pub mod Actions
+pub mod Grammar
+pub mod Told
+pub mod Steps

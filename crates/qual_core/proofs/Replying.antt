@@ -1,0 +1,112 @@
+-- How the reply is put together.
+use Rattle.std.proofs.Common.{◌≡◌, ◌&&◌, ◌==◌, ℕ, List, ◌∷◌, Option, Some, None, Result, Ok, Err, IfOk, IsSome, Bool, true, false, if◌then◌else◌, refl, sym, ◌∙◌, ap, subst, rules}
+use Rattle.liberty_source.specs.declared.Library.{Library}
+use Rattle.verilog_source.specs.declared.Source.{Source}
+use Rattle.compare_text.specs.declared.report.CompareReport.{CompareReport}
+use Rattle.compare_text.specs.declared.report.Totals.{Totals}
+use Rattle.compare_text.specs.Text.{IsReport}
+use Rattle.compare_text.specs.Blocks.{SaysEqualTruly}
+use Rattle.qual_core.specs.Files.{IsLibraryRead, IsSourceRead}
+use Rattle.qual_core.specs.Command.{command_of, name_beside}
+use Rattle.qual_core.specs.Outcome.{usage, refused, totals_status, report_reply, IsCompared, IsSecondReply, verilog_refused, compared, IsFirstReply, liberty_refused, liberty_read, IsCompareReply, IsReplyOf, IsReplyTo, IsOutcome}
+use Rattle.qual_core.specs.Top.{IsLibraryOf, IsSourceOf, IsRefusal, AreBothRead, AreAccepted, IsDoneOrFaulty, SpeaksTruly, IsCompareAnswer, IsAnswerTo}
+use Rattle.qual_core.specs.declared.command.Command.{Command}
+use Rattle.qual_core.specs.declared.command.CommandName.{CommandName}
+use Rattle.qual_core.specs.declared.command.CommandName.TheVariants.{Compare}
+use Rattle.qual_core.specs.declared.command.FileOption.TheVariants.{Liberty, Verilog}
+use Rattle.qual_core.specs.declared.files.Failure.{Failure}
+use Rattle.qual_core.specs.declared.reply.Reply.{Reply}
+use Rattle.qual_core.specs.declared.reply.Status.{Status}
+use Rattle.qual_core.specs.declared.reply.Status.TheVariants.{Done, Faulty, FileRefused}
+
+-- a file has one list of bytes
+same_bytes : (file : Option (List ℕ)) (a b : List ℕ) → file ≡ Some a → file ≡ Some b → b ≡ a
+same_bytes file a b p q = cc
+
+library_is : (file : Option (List ℕ)) (read other : Result Library (List ℕ)) (bytes : List ℕ) → IsLibraryOf file read → file ≡ Some bytes → IsLibraryRead bytes other → other ≡ read
+library_is file read other bytes l e h = l.only other (subst (λ b. IsLibraryRead b other) (same_bytes file l.bytes bytes l.there e) h)
+
+source_is : (file : Option (List ℕ)) (read other : Result Source (List ℕ)) (bytes : List ℕ) → IsSourceOf file read → file ≡ Some bytes → IsSourceRead bytes other → other ≡ read
+source_is file read other bytes s e h = s.only other (subst (λ b. IsSourceRead b other) (same_bytes file s.bytes bytes s.there e) h)
+
+ok_or_err : {A B : Type 0} (r s : Result A B) (a : A) (b : B) → r ≡ Ok a → s ≡ Err b → r ≡ s → ⊥
+ok_or_err r s a b p q e = cc
+
+-- what holds of a reply by three facts
+pub three_ok : (r : Result Reply Failure) (P Q R S : Reply → Type 0) → ((x : Reply) → P x → Q x → R x → S x) → IfOk r P → IfOk r Q → IfOk r R → IfOk r S
+three_ok (Err e) P Q R S f p q t = search rules
+three_ok (Ok x) P Q R S f p q t = f x p q t
+
+module _ (liberty verilog : List ℕ) (file : List ℕ → Option (List ℕ)) where
+  pub first_refused : (line : List ℕ) → IsLibraryOf (file liberty) (Err line) → IsCompareAnswer liberty verilog file (refused line)
+  first_refused line l = record {
+    is = (l.bytes, l.there, liberty_refused line l.is refl);
+    refused_exactly = λ other h. refl;
+    truly = λ d. absurd d;
+    accepted = λ a. absurd (ok_or_err (Ok a.library) (Err line) a.library line refl refl (library_is (file liberty) (Err line) (Ok a.library) a.liberty_bytes l a.liberty_there a.is_library));
+  }
+
+  pub second_refused : (library : Library) (line : List ℕ) → IsLibraryOf (file liberty) (Ok library) → IsSourceOf (file verilog) (Err line) → IsCompareAnswer liberty verilog file (refused line)
+  second_refused library line l s = record {
+    is = (l.bytes, l.there, liberty_read library l.is s.bytes s.there (verilog_refused line s.is refl));
+    refused_exactly = λ other h. refl;
+    truly = λ d. absurd d;
+    accepted = λ a. absurd (ok_or_err (Ok a.source) (Err line) a.source line refl refl (source_is (file verilog) (Err line) (Ok a.source) a.verilog_bytes s a.verilog_there a.is_source));
+  }
+
+  no_refusal : (t : Totals) → FileRefused ≡ totals_status t → ⊥
+  no_refusal t e = elim (t.differs == 0 && t.refused == 0) as (λ b. FileRefused ≡ (if b then Done else Faulty) → ⊥) [ true ↦ λ f. cc | false ↦ λ f. cc ] e
+
+  no_second : (library : Library) (source : Source) (bytes line : List ℕ) → IsSourceOf (file verilog) (Ok source) → file verilog ≡ Some bytes → IsSecondReply library bytes (refused line) → ⊥
+  no_second library source bytes line s e (verilog_refused other h f) = ok_or_err (Ok source) (Err other) source other refl refl (sym (source_is (file verilog) (Ok source) (Err other) bytes s e h))
+  no_second library source bytes line s e (compared other h (report, is, f)) = no_refusal report.totals (ap (λ (r : Reply). r.status) f)
+
+  no_first : (library : Library) (source : Source) (bytes line : List ℕ) → IsLibraryOf (file liberty) (Ok library) → IsSourceOf (file verilog) (Ok source) → file liberty ≡ Some bytes → IsFirstReply bytes (file verilog) (refused line) → ⊥
+  no_first library source bytes line l s e (liberty_refused other h f) = ok_or_err (Ok library) (Err other) library other refl refl (sym (library_is (file liberty) (Ok library) (Err other) bytes l e h))
+  no_first library source bytes line l s e (liberty_read other h verilog_bytes there second) = no_second other source verilog_bytes line s there second
+
+  pub both_compared : (library : Library) (source : Source) (reply : Reply) → IsLibraryOf (file liberty) (Ok library) → IsSourceOf (file verilog) (Ok source) → IsCompared library source reply
+      → IsDoneOrFaulty reply.status → SaysEqualTruly library source reply.text → IsCompareAnswer liberty verilog file reply
+  both_compared library source reply l s c d truly = record {
+    is = (l.bytes, l.there, liberty_read library l.is s.bytes s.there (compared source s.is c));
+    refused_exactly = λ line h. absurd (no_first library source h.0 line l s h.1 h.2);
+    truly = λ done. (
+      record {
+        liberty_bytes = l.bytes;
+        verilog_bytes = s.bytes;
+        library = library;
+        source = source;
+        liberty_there = l.there;
+        verilog_there = s.there;
+        is_library = l.is;
+        is_source = s.is;
+      },
+      truly,
+    );
+    accepted = λ a. d;
+  }
+
+-- ---- the words
+
+pub usage_answer : (words : List (List ℕ)) (file : List ℕ → Option (List ℕ)) (reply : Reply) → command_of words ≡ None → reply ≡ usage → IsAnswerTo words file reply
+usage_answer words file reply e f = record {
+  outcome = rw e f;
+  refused_exactly = λ line r. absurd (let h = rw e at r.0 in cc);
+  truly = λ d. absurd (let h = rw f at d in h);
+  accepted = λ a. absurd (let h = rw e at a.command in cc);
+}
+
+named_outcome : (name : CommandName) (words : List (List ℕ)) (file : List ℕ → Option (List ℕ)) (reply : Reply) → IsCompareReply (name_beside words Liberty) (name_beside words Verilog) file reply → IsReplyOf name words file reply
+named_outcome Compare words file reply h = h
+
+outcome_named : (name : CommandName) (words : List (List ℕ)) (file : List ℕ → Option (List ℕ)) (reply : Reply) → IsReplyOf name words file reply → IsCompareReply (name_beside words Liberty) (name_beside words Verilog) file reply
+outcome_named Compare words file reply h = h
+
+pub compare_answer : (words : List (List ℕ)) (c : Command) (file : List ℕ → Option (List ℕ)) (reply : Reply) → command_of words ≡ Some c
+    → IsCompareAnswer (name_beside words Liberty) (name_beside words Verilog) file reply → IsAnswerTo words file reply
+compare_answer words c file reply e h = record {
+  outcome = rw e (named_outcome c.name words file reply h.is);
+  refused_exactly = λ line r. h.refused_exactly line (outcome_named c.name words file (refused line) (rw e at r.1));
+  truly = λ d. let t = h.truly d in (record { command = rw e (search rules); files = t.0 }, t.1);
+  accepted = λ a. h.accepted a.files;
+}
