@@ -112,7 +112,13 @@ fn is_input(direction: Direction) -> bool
 pub(crate) fn input_count(pins: &[LibertyPin]) -> usize
     ensures { result ≡ length (input_pins pins.now) }
 {
-    pins.iter().filter(|pin| is_input(pin.direction)).count()
+    let mut count = 0;
+    for pin in pins {
+        if is_input(pin.direction) {
+            count += 1;
+        }
+    }
+    count
 }
 
 /// The input pins' names in Liberty's order.

@@ -126,7 +126,13 @@ pub(crate) fn scope_of(alloc: Global, nodes: &Names, cell: &LibertyCell) -> Resu
 pub(crate) fn input_count(pins: &[LibertyPin]) -> usize
     ensures { result ≡ length (input_pins pins.now) }
 {
-    pins.iter().filter(|pin| is_input(pin)).count()
+    let mut count = 0;
+    for pin in pins {
+        if is_input(pin) {
+            count += 1;
+        }
+    }
+    count
 }
 
 /// The input pins alone.

@@ -3,8 +3,9 @@ ghost use Rattle.std.specs.Prelude.{◌≡◌};
 ghost use Rattle.text_scan.specs.Bytes as spec;
 ghost use Rattle.text_scan.specs.Pieces as pieces;
 
+/// A space, a tab or a carriage return.
 #[tactic(auto, unfolding(crate::specs::Bytes::is_blank))]
-pub(crate) fn is_blank(byte: u8) -> bool
+pub fn is_blank(byte: u8) -> bool
     ensures { result ≡ spec.is_blank byte }
 {
     byte == b' ' || byte == b'\t' || byte == b'\r'
@@ -31,15 +32,17 @@ pub(crate) fn is_liberty_byte(byte: u8) -> bool
     33 <= byte && byte <= 126 && !is_liberty_sign(byte)
 }
 
+/// A decimal digit.
 #[tactic(auto, unfolding(crate::specs::Bytes::is_digit))]
-pub(crate) fn is_digit(byte: u8) -> bool
+pub fn is_digit(byte: u8) -> bool
     ensures { result ≡ spec.is_digit byte }
 {
     b'0' <= byte && byte <= b'9'
 }
 
+/// An ASCII letter or `_`.
 #[tactic(auto, unfolding(crate::specs::Bytes::is_letter))]
-pub(crate) fn is_letter(byte: u8) -> bool
+pub fn is_letter(byte: u8) -> bool
     ensures { result ≡ spec.is_letter byte }
 {
     (b'a' <= byte && byte <= b'z') || (b'A' <= byte && byte <= b'Z') || byte == b'_'

@@ -6,7 +6,8 @@ ghost use Rattle.text_scan.specs.Pieces.{ends_liberty_word, ends_run, begins_spa
 use crate::bytes;
 use memchr::memchr;
 
-pub(crate) fn until_byte(byte: u8, text: &[u8]) -> usize
+/// The place of the first such byte, or else the length.
+pub fn until_byte(byte: u8, text: &[u8]) -> usize
     ensures value { result ≡ until (begins_with byte) text.now }
     ensures within { result ≤ length text.now }
 {
@@ -43,7 +44,8 @@ pub(crate) fn until_space(text: &[u8]) -> usize
     text.len()
 }
 
-pub(crate) fn until_identifier_end(text: &[u8]) -> usize
+/// How many letters, digits and `$` the text begins with.
+pub fn until_identifier_end(text: &[u8]) -> usize
     ensures value { result ≡ until (ends_run is_identifier_byte) text.now }
     ensures within { result ≤ length text.now }
 {
@@ -55,7 +57,8 @@ pub(crate) fn until_identifier_end(text: &[u8]) -> usize
     text.len()
 }
 
-pub(crate) fn until_number_end(text: &[u8]) -> usize
+/// How many letters, digits, `.` and `'` the text begins with.
+pub fn until_number_end(text: &[u8]) -> usize
     ensures value { result ≡ until (ends_run is_number_byte) text.now }
     ensures within { result ≤ length text.now }
 {

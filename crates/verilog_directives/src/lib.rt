@@ -14,7 +14,6 @@ mod names;
 mod obeying;
 mod order;
 mod ordering;
-mod search;
 mod signs;
 mod skim;
 mod word;

@@ -7,11 +7,9 @@ ghost use Rattle.text_scan.specs.Left.{tokens_at};
 ghost use Rattle.verilog_directives.specs.Behind.{IsCounted};
 ghost use Rattle.verilog_directives.specs.Skims as spec;
 
-use crate::search::{
-    begins_with, is_blank, is_digit, is_letter, until_identifier_end, until_line_end,
-    until_number_end,
+use text_scan::{
+    Place, is_blank, is_digit, is_letter, until_byte, until_identifier_end, until_number_end,
 };
-use text_scan::Place;
 
 /// What begins a text, to a reader that skims it.
 #[derive(Clone, Copy)]
@@ -33,6 +31,16 @@ fn begins_end(word: &[u8]) -> bool
     match word {
         [a, b, c, ..] => *a == b'e' && *b == b'n' && *c == b'd',
         _ => false,
+    }
+}
+
+#[tactic(auto, unfolding(text_scan::specs::Bytes::begins_with))]
+fn begins_with(byte: u8, text: &[u8]) -> bool
+    ensures { result ≡ bytes.begins_with byte text.now }
+{
+    match text {
+        [] => false,
+        [first, ..] => *first == byte,
     }
 }
 
@@ -77,7 +85,7 @@ fn skim_slash(rest: &[u8], text: &[u8]) -> Skim
     if begins_with(b'*', rest) {
         Skim::Stop
     } else if begins_with(b'/', rest) {
-        Skim::Blank(until_line_end(rest) + 1)
+        Skim::Blank(until_byte(b'\n', rest) + 1)
     } else {
         Skim::Token(1)
     }

@@ -1,0 +1,6 @@
+use Rattle.std.proofs.Common.{◌≡◌, ◌≤◌, take, length}
+use Rattle.liberty_meaning.specs.Names.{input_pins}
+use Rattle.cell_compare.proofs.pins.input_count.Given as goal
+
+abbrev pub invariant-loop-pin : goal.invariant-loop-pin
+invariant-loop-pin l = (l.count ≡ length (input_pins (take l.pin-index l.pins))) × (l.count ≤ l.pin-index)
