@@ -11,8 +11,10 @@ use Rattle.cdl_cards.specs.Cards.{Card}
 use Rattle.cdl_reader.specs.Words.{first_fault, kind_of_card, operands}
 use Rattle.cdl_reader.specs.Actions.{adds, at_word, begin, begun_part, close, end_refusal, enter_part, entered, named_part, opened, refused_by, unless_told, with_part, word_bytes}
 use Rattle.cdl_reader.specs.Parts.{made, no_part}
-use Rattle.cdl_reader.specs.Steps.{TellsSome, taken, taken_outside, taken_inside}
-use Rattle.cdl_reader.specs.Told.{Agrees, Steps, at_card}
+use Rattle.cdl_reader.specs.Steps.{taken, taken_outside, taken_inside}
+use Rattle.file_rules.specs.Told.{TellsSome}
+use Rattle.cdl_reader.specs.Told.{at_card}
+use Rattle.file_rules.specs.Told.{Agrees, Steps}
 use Rattle.cdl_reader.specs.declared.kinds.CardKind.{CardKind}
 use Rattle.cdl_reader.specs.declared.kinds.CardKind.TheVariants as kinds
 use Rattle.cdl_reader.specs.declared.part.Construct.{Construct}

@@ -19,7 +19,8 @@ use Rattle.cdl_reader.specs.Words.{kind_of_card, kind_of_word, behind, operands}
 use Rattle.cdl_reader.specs.Actions.{at_word, begin, close, enter}
 use Rattle.cdl_reader.specs.Grammar.{CardRule, after_begin, body, card, is_begin, is_end, is_plain, item, netlist, nothing}
 use Rattle.cdl_reader.specs.Steps.{moved, phase_after, reads, taken, taken_by, taken_inside, taken_outside, to_come}
-use Rattle.cdl_reader.specs.Told.{Agrees, Steps, at_place, told}
+use Rattle.cdl_reader.specs.Told.{at_place, told}
+use Rattle.file_rules.specs.Told.{Agrees, Steps}
 use Rattle.cdl_reader.specs.declared.kinds.CardKind.{CardKind}
 use Rattle.cdl_reader.specs.declared.kinds.CardKind.TheVariants as kinds
 use Rattle.cdl_reader.specs.declared.parts.Parts.{Parts}

@@ -1,4 +1,3 @@
-pub mod Names
 pub mod Words
 pub mod Pins
 pub mod Parts

@@ -5,7 +5,7 @@ use Rattle.circuit.specs.declared.netlist.SubcircuitPart.{SubcircuitPart}
 use Rattle.circuit.specs.declared.netlist.SubcircuitPart.TheVariants as parts
 use Rattle.cdl_cards.specs.Words.{PlacedWord}
 use Rattle.cdl_cards.specs.Cards.{Card}
-use Rattle.cdl_reader.specs.Names.{shown_word}
+use Rattle.file_rules.specs.Names.{shown_word}
 use Rattle.cdl_reader.specs.Pins.{directed}
 use Rattle.cdl_reader.specs.declared.part.Construct.{Construct}
 use Rattle.cdl_reader.specs.declared.part.Part.{Part}

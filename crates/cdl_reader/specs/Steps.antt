@@ -24,6 +24,7 @@ use Rattle.cdl_reader.specs.declared.reader.Phase.{Phase}
 use Rattle.cdl_reader.specs.declared.reader.Phase.TheVariants as phases
 use Rattle.cdl_reader.specs.declared.reader.Reader.{Reader}
 use Rattle.cdl_reader.specs.declared.transistors.Terminals.{Terminals}
+use Rattle.file_rules.specs.Told.{TellsSome}
 
 -- the fault is this one, unless memory ran out
 abbrev pub IsFault : WordFault → Option Fault → Type 0
@@ -40,13 +41,6 @@ IsNextName limits first old new (Err f) = (n : ℕ) → IsFault f (fault_among l
 abbrev pub ArePins : Limits → List PlacedWord → Result (List (List ℕ)) WordFault → Type 0
 ArePins limits ws (Ok pins) = (first_fault limits ws ≡ None) × (pins ≡ map word_bytes ws)
 ArePins limits ws (Err f) = IsFault f (first_fault limits ws)
-
--- the refusal is this one, unless memory ran out
-abbrev pub TellsSome : FileRefusal → Option FileRefusal → Type 0
-TellsSome refusals.NoMemory o = Unit {0}
-TellsSome (refusals.Syntax line column) o = o ≡ Some (refusals.Syntax line column)
-TellsSome (refusals.TooMany kind number) o = o ≡ Some (refusals.TooMany kind number)
-TellsSome (refusals.DoubleName name line) o = o ≡ Some (refusals.DoubleName name line)
 
 -- there is no refusal, or it is this one
 abbrev pub Unless : {U : Type 0} → Result U FileRefusal → Option FileRefusal → Type 0

@@ -6,7 +6,7 @@ use Rattle.text_scan.specs.declared.limits.Limits.{Limits}
 use Rattle.cdl_cards.specs.Words.{PlacedWord}
 use Rattle.cdl_cards.specs.Cards.{Card}
 use Rattle.cdl_cards.specs.Kinds.{is_same_word, is_pin_info}
-use Rattle.cdl_reader.specs.Names.{is_name}
+use Rattle.file_rules.specs.Names.{is_name, is_too_long}
 use Rattle.cdl_reader.specs.declared.kinds.CardKind.{CardKind}
 use Rattle.cdl_reader.specs.declared.kinds.CardKind.TheVariants as kinds
 
@@ -49,7 +49,7 @@ first_of (Some x) next = Some x
 
 -- its length is judged first
 unfoldable pub fault_of : Limits → PlacedWord → Option Fault
-fault_of limits w = if nat_lt limits.name (length w.bytes) then Some too_long else if is_name w.bytes then None else Some (no_name w)
+fault_of limits w = if is_too_long limits w.bytes then Some too_long else if is_name w.bytes then None else Some (no_name w)
 
 -- the first fault of some words
 unfoldable pub first_fault : Limits → List PlacedWord → Option Fault

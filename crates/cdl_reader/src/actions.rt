@@ -4,17 +4,18 @@ ghost use Rattle.cdl_cards.specs.Left.{card_left, cards_left, word_of};
 ghost use Rattle.cdl_reader.specs.Actions as spec;
 ghost use Rattle.cdl_reader.specs.Parts as parts;
 ghost use Rattle.cdl_reader.specs.Steps.{ArePins, IsFault};
-ghost use Rattle.cdl_reader.specs.Told.{Agrees, Steps};
+ghost use Rattle.file_rules.specs.Told.{Agrees, Steps};
 ghost use Rattle.cdl_reader.specs.Words.{Fault, operands};
 ghost use Rattle.cdl_reader.specs.declared.part.Part.{Part as PartData};
 
 use crate::kinds::{CardKind, kind_of_word};
-use crate::names::{WordFault, check_name, next_operand, shown_word};
+use crate::names::{WordFault, check_name, next_operand};
 use crate::part::{Construct, Part};
 use crate::pins::{directed, tell};
 use crate::transistors::transistor;
 use cdl_cards::{Cards, Word};
 use circuit::{Subcircuit, SubcircuitPart};
+use file_rules::shown_word;
 use std::alloc::Global;
 use text_scan::{FileRefusal, Items, LimitKind, Limits, NoMemory, Text};
 
@@ -73,7 +74,7 @@ impl Part {
         ensures { IfOk result (λ u. self.new ≡ parts.refused_at (word_of word.entry) self.old) }
     {
         self.refusal = Some(Construct {
-            card: shown_word(alloc, word.bytes)?,
+            card: Text::from_bytes(alloc, shown_word(word.bytes))?,
             line: word.line,
         });
         Ok(())

@@ -3,8 +3,9 @@ ghost use Rattle.std.specs.Prelude.{◌≡◌, ◌∷◌, [], IfOk, Option};
 ghost use Rattle.cdl_cards.specs.Left.{card_left, cards_left, word_of};
 ghost use Rattle.cdl_reader.specs.Actions as spec;
 ghost use Rattle.cdl_reader.specs.Grammar as grammar;
-ghost use Rattle.cdl_reader.specs.Steps.{IsFault, TellsSome, Unless, is_named};
-ghost use Rattle.cdl_reader.specs.Told.{Steps};
+ghost use Rattle.cdl_reader.specs.Steps.{IsFault, Unless, is_named};
+ghost use Rattle.file_rules.specs.Told.{TellsSome};
+ghost use Rattle.file_rules.specs.Told.{Steps};
 ghost use Rattle.cdl_reader.specs.Words.{Fault, operands};
 
 use crate::actions::long_name;

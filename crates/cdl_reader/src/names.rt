@@ -1,11 +1,11 @@
 //! Names, and words that should be names.
 ghost use Rattle.std.specs.Prelude.{◌≡◌, ◌∷◌, ◌+◌, [], ℕ, IfOk, IsOk, MatchOption, MatchResult};
 ghost use Rattle.cdl_cards.specs.Left.{card_left, cards_left, word_of};
-ghost use Rattle.cdl_reader.specs.Names as spec;
 ghost use Rattle.cdl_reader.specs.Words as words;
 ghost use Rattle.cdl_reader.specs.Steps.{IsFault, IsNextName};
 
 use cdl_cards::{Cards, Word};
+use file_rules::{is_name, is_too_long};
 use std::alloc::Global;
 use text_scan::{Limits, NoMemory, Text};
 
@@ -28,74 +28,12 @@ impl From<NoMemory> for WordFault<'_> {
     }
 }
 
-#[tactic(auto, unfolding(crate::specs::Names::is_no_name_byte))]
-fn is_no_name_byte(byte: u8) -> bool
-    ensures { result ≡ spec.is_no_name_byte byte }
-{
-    matches!(
-        byte,
-        b'(' | b')' | b'{' | b'}' | b';' | b',' | b'"' | b'=' | b'\'' | b'\\'
-    )
-}
-
-#[tactic(auto, unfolding(crate::specs::Names::is_name_byte))]
-fn is_name_byte(byte: u8) -> bool
-    ensures { result ≡ spec.is_name_byte byte }
-{
-    33 <= byte && byte <= 126 && !is_no_name_byte(byte)
-}
-
-#[tactic(auto, unfolding(crate::specs::Names::is_mark))]
-fn is_mark(bytes: &[u8]) -> bool
-    ensures { result ≡ spec.is_mark bytes.now }
-{
-    bytes == b"-".as_slice() || bytes == b"*".as_slice()
-}
-
-fn has_name_bytes(bytes: &[u8]) -> bool
-    ensures { result ≡ spec.has_name_bytes bytes.now }
-{
-    bytes.iter().all(|byte| is_name_byte(*byte))
-}
-
-/// Whether the bytes are a name, of whatever length.
-#[tactic(auto, unfolding(crate::specs::Names::is_name))]
-fn is_name(bytes: &[u8]) -> bool
-    ensures { result ≡ spec.is_name bytes.now }
-{
-    0 < bytes.len() && has_name_bytes(bytes) && !is_mark(bytes)
-}
-
-fn is_graphic(byte: u8) -> bool
-    ensures { result ≡ spec.is_graphic byte }
-{
-    33 <= byte && byte <= 126
-}
-
-fn are_graphic(bytes: &[u8]) -> bool
-    ensures { result ≡ spec.are_graphic bytes.now }
-{
-    bytes.iter().all(|byte| is_graphic(*byte))
-}
-
-/// The word by which a refused card is shown.
-#[tactic(auto, unfolding(crate::specs::Names::shown_word))]
-pub fn shown_word(alloc: Global, bytes: &[u8]) -> Result<Text, NoMemory>
-    ensures { IfOk result (λ t. t ≡ spec.shown_word bytes.now) }
-{
-    if bytes.len() <= 128 && are_graphic(bytes) {
-        Text::from_bytes(alloc, bytes)
-    } else {
-        Text::from_bytes(alloc, b"wide")
-    }
-}
-
 /// The word, if it is a name.
 #[tactic(auto, unfolding(crate::specs::Words::fault_of))]
 pub fn check_name<'a>(limits: &Limits, word: Word<'a>) -> Result<Word<'a>, WordFault<'a>>
     ensures { MatchResult result (λ w. (word_of w ≡ word_of word.entry) × (words.fault_of limits.now (word_of word.entry) ≡ None)) (λ f. IsFault f (words.fault_of limits.now (word_of word.entry))) }
 {
-    if (limits.name as usize) < word.bytes.len() {
+    if is_too_long(limits, word.bytes) {
         return Err(WordFault::TooLong);
     }
     if is_name(word.bytes) {

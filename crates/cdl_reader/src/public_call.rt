@@ -3,7 +3,8 @@ ghost use Rattle.std.specs.Prelude.{◌≡◌};
 ghost use Rattle.grammar.specs.Answers.{IsAnswer, read_all};
 ghost use Rattle.cdl_cards.specs.Cards.{cards_of};
 ghost use Rattle.cdl_reader.specs.Grammar.{netlist, nothing};
-ghost use Rattle.cdl_reader.specs.Told.{Agrees, Answer, IsAnswered, told};
+ghost use Rattle.cdl_reader.specs.Told.{Answer, IsAnswered, told};
+ghost use Rattle.file_rules.specs.Told.{Agrees};
 
 use crate::ends::at_word;
 use crate::reader::Reader;

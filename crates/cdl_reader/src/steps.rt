@@ -4,7 +4,8 @@ ghost use Rattle.text_scan.specs.Tokens.{after, start};
 ghost use Rattle.cdl_cards.specs.Left.{card_left, cards_left, word_of};
 ghost use Rattle.cdl_reader.specs.Grammar.{nothing};
 ghost use Rattle.cdl_reader.specs.Steps as spec;
-ghost use Rattle.cdl_reader.specs.Told.{Steps, at_place, told};
+ghost use Rattle.cdl_reader.specs.Told.{at_place, told};
+ghost use Rattle.file_rules.specs.Told.{Steps};
 ghost use Rattle.cdl_reader.specs.Words.{kind_of_word};
 ghost use Rattle.cdl_reader.specs.declared.reader.Phase.TheVariants as phases;
 

@@ -10,7 +10,8 @@ use Rattle.liberty_reader.specs.declared.cell.Slots.{Slots}
 use Rattle.std.specs.List.{list_all}
 use Rattle.liberty_statements.specs.declared.statements.Group.{Group}
 use Rattle.liberty_reader.specs.declared.cell.Construct.{Construct}
-use Rattle.liberty_tokens.specs.Names.{content, is_name, is_string, columns}
+use Rattle.file_rules.specs.Names.{is_name}
+use Rattle.liberty_tokens.specs.Names.{content, is_string, columns}
 use Rattle.liberty_reader.specs.Cells.{put, slots_from, bad_arg, bad_column, are_variables, are_strings, at_word, or_first, group_refuses, first_refused, is_state}
 
 pub next_slots : (xs : List Attribute) (at : ℕ) (a : Attribute) (s : Slots) → at < length xs → slots_from (drop at xs) s ≡ slots_from (drop (at + 1) xs) (put (slice_index_or xs at a).kind (slice_index_or xs at a) s)

@@ -9,7 +9,8 @@ use Rattle.grammar.specs.Answers.{read_all, IsAnswer}
 use Rattle.grammar.proofs.Answer.{answers}
 use Rattle.grammar.proofs.Unique.{answer_is_read}
 use Rattle.liberty_statements.specs.declared.statements.Statements.{Statements}
-use Rattle.liberty_statements.specs.Answer.{library_file, file_tokens, told, same, Agrees}
+use Rattle.liberty_statements.specs.Answer.{library_file, file_tokens, told, same}
+use Rattle.file_rules.specs.Told.{Agrees}
 use Rattle.liberty_reader.specs.Cells.{library}
 use Rattle.liberty_statements.specs.Does.{nothing}
 use Rattle.liberty_reader.specs.Promise.{IsAnswered}

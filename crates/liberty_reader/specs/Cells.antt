@@ -30,7 +30,8 @@ use Rattle.liberty_statements.specs.declared.statements.Statements.{Statements}
 use Rattle.liberty_reader.specs.declared.cell.Slots.{Slots}
 use Rattle.liberty_reader.specs.declared.cell.Construct.{Construct}
 use Rattle.liberty_tokens.specs.Looks.{text}
-use Rattle.liberty_tokens.specs.Names.{content, is_string, is_name, columns}
+use Rattle.file_rules.specs.Names.{is_name, shown_string, shown_word}
+use Rattle.liberty_tokens.specs.Names.{content, is_string, columns}
 use Rattle.liberty_statements.specs.Actions.{value_text}
 
 -- ---- attributes: the last of each kind counts
@@ -212,22 +213,6 @@ first_refused source second [] = None
 first_refused source second (g ∷ gs) = or_first (group_refuses source second g) (first_refused source (second || is_state g.kind) gs)
 
 -- ---- the words of constructs
-
-abbrev pub is_graphic : ℕ → Bool
-is_graphic b = nat_le 33 b && nat_le b 126
-
-abbrev pub are_graphic : List ℕ → Bool
-are_graphic w = list_all is_graphic w
-
-abbrev pub is_shown : List ℕ → Bool
-is_shown w = nat_lt 0 (length w) && (nat_le (length w) 128 && are_graphic w)
-
-abbrev pub shown_string : List ℕ → List ℕ
-shown_string s = if is_name s && nat_le (length s) 128 then s else codes "string"
-
--- a word that can't be shown is wide
-abbrev pub shown_word : List ℕ → List ℕ
-shown_word w = if is_shown w then w else codes "wide"
 
 -- a string is shown by its content where that is a name
 unfoldable pub word_of : List ℕ → Token → List ℕ

@@ -4,7 +4,8 @@ use Rattle.text_scan.specs.declared.limits.Limits.{Limits}
 use Rattle.text_scan.specs.declared.refusal.FileRefusal.{FileRefusal}
 use Rattle.liberty_source.specs.declared.Library.{Library}
 use Rattle.grammar.specs.Answers.{IsAnswer}
-use Rattle.liberty_statements.specs.Answer.{library_file, file_tokens, told, Agrees}
+use Rattle.liberty_statements.specs.Answer.{library_file, file_tokens, told}
+use Rattle.file_rules.specs.Told.{Agrees}
 use Rattle.liberty_reader.specs.Cells.{library}
 use Rattle.liberty_statements.specs.Does.{nothing}
 use Rattle.liberty_statements.specs.ToCome.{Answer}

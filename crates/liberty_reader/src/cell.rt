@@ -3,9 +3,11 @@ ghost use Rattle.std.specs.Prelude.{◌≡◌, IfOk, false};
 ghost use Rattle.std.specs.List.{list_all};
 ghost use Rattle.liberty_tokens.specs.Names as names;
 ghost use Rattle.liberty_reader.specs.Cells as spec;
+ghost use Rattle.file_rules.specs.Names.{is_name};
 
+use file_rules::is_name;
 use liberty_statements::{Attribute, Group, value_text};
-use liberty_tokens::{AttributeKind, GroupKind, columns, content, is_name};
+use liberty_tokens::{AttributeKind, GroupKind, columns, content};
 use std::alloc::Global;
 use text_scan::{Direction, Kind, NoMemory, Text, Token};
 
@@ -289,13 +291,13 @@ fn bad_column(alloc: Global, source: &[u8], args: &[Token]) -> Result<Option<Con
 }
 
 fn are_names(texts: &[Text]) -> bool
-    ensures { result ≡ list_all names.is_name texts.now }
+    ensures { result ≡ list_all is_name texts.now }
 {
     texts.iter().all(|text| is_name(text.as_bytes()))
 }
 
 fn are_columns(alloc: Global, source: &[u8], token: Token) -> Result<bool, NoMemory>
-    ensures { IfOk result (λ all. all ≡ list_all names.is_name (names.columns (names.content source.now token))) }
+    ensures { IfOk result (λ all. all ≡ list_all is_name (names.columns (names.content source.now token))) }
 {
     let row = content(alloc, source, token)?;
     let found = columns(alloc, row.as_bytes())?;
@@ -303,7 +305,7 @@ fn are_columns(alloc: Global, source: &[u8], token: Token) -> Result<bool, NoMem
 }
 
 fn is_name_token(alloc: Global, source: &[u8], token: Token) -> Result<bool, NoMemory>
-    ensures { IfOk result (λ is. is ≡ names.is_name (names.content source.now token)) }
+    ensures { IfOk result (λ is. is ≡ is_name (names.content source.now token)) }
 {
     let name = content(alloc, source, token)?;
     Ok(is_name(name.as_bytes()))

@@ -5,11 +5,12 @@ ghost use Rattle.liberty_reader.specs.Cells as spec;
 ghost use Rattle.liberty_tokens.specs.Names as names;
 
 use crate::cell::{Construct, Slots, direction_of, first_refused, is_power, is_string, last_of};
+use file_rules::{shown_string, shown_word};
 use liberty_source::{
     Both, CellPart, FfText, LatchText, LibertyCell, LibertyPin, Library, RowsText, StateGroup,
 };
 use liberty_statements::{Attribute, CellText, Group, Statements, value_text};
-use liberty_tokens::{GroupKind, columns, content, is_name, text};
+use liberty_tokens::{GroupKind, columns, content, text};
 use std::alloc::Global;
 use text_scan::{Direction, Items, NoMemory, PinKind, Text, Token};
 
@@ -29,47 +30,13 @@ fn shown_value(
     }
 }
 
-fn is_graphic(byte: u8) -> bool
-    ensures { result ≡ spec.is_graphic byte }
-{
-    33 <= byte && byte <= 126
-}
-
-fn are_graphic(word: &[u8]) -> bool
-    ensures { result ≡ spec.are_graphic word.now }
-{
-    word.iter().all(|byte| is_graphic(*byte))
-}
-
-fn is_shown(word: &[u8]) -> bool
-    ensures { result ≡ spec.is_shown word.now }
-{
-    0 < word.len() && word.len() <= 128 && are_graphic(word)
-}
-
-fn shown_word(word: &[u8]) -> &[u8]
-    ensures { result.now ≡ spec.shown_word word.now }
-{
-    if is_shown(word) { word } else { b"wide" }
-}
-
-fn shown_string(alloc: Global, string: Text) -> Result<Text, NoMemory>
-    ensures { IfOk result (λ t. t ≡ spec.shown_string string) }
-{
-    if is_name(string.as_bytes()) && string.as_bytes().len() <= 128 {
-        Ok(string)
-    } else {
-        Text::from_bytes(alloc, b"string")
-    }
-}
-
 #[tactic(auto, unfolding(crate::specs::Cells::word_of))]
 fn word_of(alloc: Global, source: &[u8], token: Token) -> Result<Text, NoMemory>
     ensures { IfOk result (λ t. t ≡ spec.word_of source.now token) }
 {
     if is_string(token.kind) {
         let string = content(alloc, source, token)?;
-        return shown_string(alloc, string);
+        return Text::from_bytes(alloc, shown_string(string.as_bytes()));
     }
     Text::from_bytes(alloc, shown_word(text(source, token)))
 }

@@ -1,7 +1,8 @@
 //! The public call.
 ghost use Rattle.std.specs.Prelude.{◌≡◌, ◌≤◌};
 ghost use Rattle.grammar.specs.Answers.{IsAnswer};
-ghost use Rattle.liberty_statements.specs.Answer.{library_file, file_tokens, told, Agrees};
+ghost use Rattle.liberty_statements.specs.Answer.{library_file, file_tokens, told};
+ghost use Rattle.file_rules.specs.Told.{Agrees};
 ghost use Rattle.liberty_reader.specs.Cells.{library as library_of};
 ghost use Rattle.liberty_statements.specs.Does.{nothing};
 ghost use Rattle.liberty_reader.specs.Promise.{IsAnswered, IsWithin};

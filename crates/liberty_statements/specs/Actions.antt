@@ -18,7 +18,8 @@ use Rattle.liberty_statements.specs.declared.statements.Statements.{Statements}
 use Rattle.liberty_tokens.specs.Looks.{text}
 use Rattle.liberty_tokens.specs.Words.{group_kind, attribute_kind, is_cell}
 use Rattle.name_index.specs.Places.{is_known}
-use Rattle.liberty_tokens.specs.Names.{content, is_name, columns}
+use Rattle.file_rules.specs.Names.{is_name, is_too_long}
+use Rattle.liberty_tokens.specs.Names.{content, columns}
 
 abbrev pub Outcome : Type 0
 Outcome = Result Statements Refusal
@@ -78,7 +79,7 @@ unfoldable pub reads_node : List ℕ → Statements → Bool
 reads_node source s = s.passed == 0 && (is_group s.level && (is_pin s.group_kind && is_internal_node (attribute_kind (text source s.word))))
 
 unfoldable pub is_long : List ℕ → Limits → Value → Bool
-is_long source limits v = nat_lt limits.name (length (value_text source v))
+is_long source limits v = is_too_long limits (value_text source v)
 
 -- with this token the node's name is too long
 unfoldable pub is_refused : List ℕ → Limits → Token → Statements → Bool
@@ -108,9 +109,6 @@ settle source t s = Ok (settled source s)
 
 unfoldable pub pass : Statements → Statements
 pass s = record s { passed = s.passed + 1 }
-
-abbrev pub is_too_long : Limits → List ℕ → Bool
-is_too_long limits name = nat_lt limits.name (length name)
 
 -- a use of a name of a pin
 unfoldable pub add_pin_name : List ℕ → Limits → Token → List (List ℕ) → Result (List (List ℕ)) Refusal

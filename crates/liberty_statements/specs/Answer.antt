@@ -51,14 +51,6 @@ told source limits value (Ok s) = Ok (value s)
 told source limits value (Err (syntax rest)) = Err (at_first rest)
 told source limits value (Err (refusal e rest)) = Err (refused source limits e)
 
--- unless memory ran out
-abbrev pub Agrees : {X : Type 0} → Result X FileRefusal → Result X FileRefusal → Type 0
-Agrees (Ok x) y = y ≡ Ok x
-Agrees (Err refusals.NoMemory) y = Unit {0}
-Agrees (Err (refusals.Syntax line column)) y = y ≡ Err (refusals.Syntax line column)
-Agrees (Err (refusals.TooMany kind number)) y = y ≡ Err (refusals.TooMany kind number)
-Agrees (Err (refusals.DoubleName name line)) y = y ≡ Err (refusals.DoubleName name line)
-
 -- what is told where the reader halts at this token
 abbrev pub halted : List ℕ → Limits → Halt → Token → FileRefusal
 halted source limits halts.NoMemory t = refusals.NoMemory
@@ -70,10 +62,3 @@ same x = x
 
 abbrev pub double : List ℕ → Token → FileRefusal
 double source t = refusals.DoubleName (content source t) t.span.line
-
--- the refusal is this one, unless memory ran out
-abbrev pub Tells : FileRefusal → FileRefusal → Type 0
-Tells refusals.NoMemory y = Unit {0}
-Tells (refusals.Syntax line column) y = refusals.Syntax line column ≡ y
-Tells (refusals.TooMany kind number) y = refusals.TooMany kind number ≡ y
-Tells (refusals.DoubleName name line) y = refusals.DoubleName name line ≡ y

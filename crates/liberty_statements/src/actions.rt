@@ -5,6 +5,7 @@ ghost use Rattle.liberty_statements.specs.Does.{Does, nothing, no_token};
 
 use crate::halt::{Halt, Refusal};
 use crate::statements::{Attribute, Level, Statements, Value};
+use file_rules::is_too_long;
 use liberty_tokens::{AttributeKind, GroupKind, attribute_kind, between, content, text};
 use name_index::Names;
 use std::alloc::Global;
@@ -83,7 +84,7 @@ fn is_long(alloc: Global, source: &[u8], limits: &Limits, value: Value) -> Resul
     ensures { IfOk result (λ long. long ≡ spec.is_long source.now limits.now value) }
 {
     let shown = value_text(alloc, source, value)?;
-    Ok((limits.name as usize) < shown.as_bytes().len())
+    Ok(is_too_long(limits, shown.as_bytes()))
 }
 
 impl Statements {

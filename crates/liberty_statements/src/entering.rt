@@ -6,17 +6,12 @@ ghost use Rattle.liberty_statements.specs.Does.{Does};
 
 use crate::halt::{Halt, Refusal};
 use crate::statements::{CellText, Group, Level, Statements};
-use liberty_tokens::{GroupKind, columns, content, group_kind, is_cell, is_name, text};
+use file_rules::{is_name, is_too_long};
+use liberty_tokens::{GroupKind, columns, content, group_kind, is_cell, text};
 use name_index::Names;
 use std::alloc::Global;
 use std::mem;
 use text_scan::{Items, LimitKind, Limits, NoMemory, Text, Token};
-
-fn is_too_long(limits: &Limits, name: &[u8]) -> bool
-    ensures { result ≡ spec.is_too_long limits.now name.now }
-{
-    (limits.name as usize) < name.len()
-}
 
 // The use of a pin's name.
 #[tactic(auto, unfolding(crate::specs::Actions::add_pin_name))]

@@ -4,6 +4,7 @@ ghost use Rattle.text_scan.specs.Left.{is_end};
 ghost use Rattle.grammar.specs.Answers.{read_all};
 ghost use Rattle.liberty_statements.specs.Answer as spec;
 ghost use Rattle.liberty_statements.specs.Does.{beginning, nothing};
+ghost use Rattle.file_rules.specs.Told.{Agrees, Tells};
 
 use crate::halt::{Halt, Refusal};
 use crate::machine::{Machine, Phase};
@@ -33,7 +34,7 @@ fn at_token(token: Token) -> FileRefusal
 }
 
 fn double_name(alloc: Global, source: &[u8], token: Token) -> FileRefusal
-    ensures { spec.Tells result (spec.double source.now token) }
+    ensures { Tells result (spec.double source.now token) }
 {
     match content(alloc, source, token) {
         Ok(name) => FileRefusal::DoubleName {
@@ -46,7 +47,7 @@ fn double_name(alloc: Global, source: &[u8], token: Token) -> FileRefusal
 
 // What is told where the reader halts at this token.
 fn halted(alloc: Global, source: &[u8], limits: &Limits, halt: Halt, token: Token) -> FileRefusal
-    ensures { spec.Tells result (spec.halted source.now limits.now halt token) }
+    ensures { Tells result (spec.halted source.now limits.now halt token) }
 {
     match halt {
         Halt::NoMemory => FileRefusal::NoMemory,
@@ -98,7 +99,7 @@ pub fn read_statements(
     limits: &Limits,
 ) -> Result<Statements, FileRefusal>
     requires { limits.now.nesting + 1 < 2 ^ 32 }
-    ensures { spec.Agrees result (spec.told source.now limits.now spec.same (read_all (spec.library_file source.now limits.now) nothing (spec.file_tokens source.now))) }
+    ensures { Agrees result (spec.told source.now limits.now spec.same (read_all (spec.library_file source.now limits.now) nothing (spec.file_tokens source.now))) }
 {
     let mut machine = Machine::new(alloc, limits.nesting);
     let mut cursor = Cursor::new(source, Style::Liberty);

@@ -10,7 +10,7 @@ pub use kinds::{
     AttributeKind, GroupKind, attribute_kind, group_kind, is_cell, is_include, is_library,
 };
 pub use look::{Look, look_of};
-pub use names::{between, columns, content, is_name, text};
+pub use names::{between, columns, content, text};
 
 #[cfg(test)]
 mod tests;

@@ -1,25 +1,11 @@
-//! The bytes of tokens, and names.
+//! The bytes of tokens, and the columns of rows.
 ghost use Rattle.std.specs.Prelude.{◌≡◌, ◌<◌, ◌++◌, [], length, drop, IfOk, OnOk, slice_range, false};
 ghost use Rattle.liberty_tokens.specs.Looks as looks;
 ghost use Rattle.liberty_tokens.specs.Names as spec;
 
+use file_rules::slice;
 use std::alloc::Global;
 use text_scan::{Items, Kind, NoMemory, Text, Token};
-
-// The bytes from one index to another, as far as they are there.
-fn slice(source: &[u8], from: usize, to: usize) -> &[u8]
-    ensures { result.now ≡ slice_range source.now from to }
-{
-    if source.len() <= from {
-        return &[];
-    }
-    let tail = &source[from..];
-    let len = to.saturating_sub(from);
-    if tail.len() <= len {
-        return tail;
-    }
-    &tail[..len]
-}
 
 #[tactic(auto, unfolding(crate::specs::Looks::text))]
 pub fn text(source: &[u8], token: Token) -> &[u8]
@@ -102,43 +88,6 @@ pub fn content(alloc: Global, source: &[u8], token: Token) -> Result<Text, NoMem
         Kind::Str => unjoined(alloc, inside(source, token)),
         _ => Text::from_bytes(alloc, text(source, token)),
     }
-}
-
-#[tactic(auto, unfolding(crate::specs::Names::is_no_name_byte))]
-fn is_no_name_byte(byte: u8) -> bool
-    ensures { result ≡ spec.is_no_name_byte byte }
-{
-    matches!(
-        byte,
-        b'(' | b')' | b'{' | b'}' | b';' | b',' | b'"' | b'=' | b'\'' | b'\\'
-    )
-}
-
-#[tactic(auto, unfolding(crate::specs::Names::is_name_byte))]
-fn is_name_byte(byte: u8) -> bool
-    ensures { result ≡ spec.is_name_byte byte }
-{
-    33 <= byte && byte <= 126 && !is_no_name_byte(byte)
-}
-
-#[tactic(auto, unfolding(crate::specs::Names::is_mark))]
-fn is_mark(bytes: &[u8]) -> bool
-    ensures { result ≡ spec.is_mark bytes.now }
-{
-    bytes == b"-".as_slice() || bytes == b"*".as_slice()
-}
-
-fn has_name_bytes(bytes: &[u8]) -> bool
-    ensures { result ≡ spec.has_name_bytes bytes.now }
-{
-    bytes.iter().all(|byte| is_name_byte(*byte))
-}
-
-#[tactic(auto, unfolding(crate::specs::Names::is_name))]
-pub fn is_name(bytes: &[u8]) -> bool
-    ensures { result ≡ spec.is_name bytes.now }
-{
-    0 < bytes.len() && has_name_bytes(bytes) && !is_mark(bytes)
 }
 
 #[tactic(auto, unfolding(crate::specs::Names::is_break))]

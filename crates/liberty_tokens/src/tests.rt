@@ -1,4 +1,5 @@
 use super::*;
+use file_rules::is_name;
 use std::process::Abort;
 use std::test::Fail;
 use text_scan::{Cursor, Style};

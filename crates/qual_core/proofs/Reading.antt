@@ -5,7 +5,7 @@ use Rattle.text_scan.specs.declared.refusal.FileRefusal.TheVariants.{NoMemory, S
 use Rattle.liberty_source.specs.declared.Library.{Library}
 use Rattle.verilog_source.specs.declared.Source.{Source}
 use Rattle.liberty_statements.specs.Answer as liberty
-use Rattle.verilog_reader.specs.Told as verilog
+use Rattle.file_rules.specs.Told as answers
 use Rattle.qual_core.specs.Files.{MAX_FILE, IsTold, refusal_words, refusal_line, IsRefusedFile, too_long, refused}
 use Rattle.qual_core.specs.declared.command.FileOption.{FileOption}
 use Rattle.grammar.specs.Answers.{IsAnswer}
@@ -25,29 +25,22 @@ abbrev pub IsToldResult : {X : Type 0} → Result X FileRefusal → Type 0
 IsToldResult (Ok x) = Unit {0}
 IsToldResult (Err e) = IsTold e
 
-agrees_liberty : {X : Type 0} (r y : Result X FileRefusal) → IsToldResult r → liberty.Agrees r y → y ≡ r
-agrees_liberty (Ok x) y t a = a
-agrees_liberty (Err NoMemory) y t a = absurd t
-agrees_liberty (Err (Syntax line column)) y t a = a
-agrees_liberty (Err (TooMany kind number)) y t a = a
-agrees_liberty (Err (DoubleName name line)) y t a = a
-
-agrees_verilog : {X : Type 0} (r y : Result X FileRefusal) → IsToldResult r → verilog.Agrees r y → y ≡ r
-agrees_verilog (Ok x) y t a = a
-agrees_verilog (Err NoMemory) y t a = absurd t
-agrees_verilog (Err (Syntax line column)) y t a = a
-agrees_verilog (Err (TooMany kind number)) y t a = a
-agrees_verilog (Err (DoubleName name line)) y t a = a
+agrees_told : {X : Type 0} (r y : Result X FileRefusal) → IsToldResult r → answers.Agrees r y → y ≡ r
+agrees_told (Ok x) y t a = a
+agrees_told (Err NoMemory) y t a = absurd t
+agrees_told (Err (Syntax line column)) y t a = a
+agrees_told (Err (TooMany kind number)) y t a = a
+agrees_told (Err (DoubleName name line)) y t a = a
 
 pub one_library : (bytes : List ℕ) (result : Result Library FileRefusal) → IsToldResult result
-    → ((o : Answer) → IsAnswer (library_file bytes standard) nothing (file_tokens bytes) o → liberty.Agrees result (liberty.told bytes standard (library_of bytes) o))
+    → ((o : Answer) → IsAnswer (library_file bytes standard) nothing (file_tokens bytes) o → answers.Agrees result (liberty.told bytes standard (library_of bytes) o))
     → (r : Result Library FileRefusal) → IsToldResult r → IsLibrary bytes r → r ≡ result
-one_library bytes result t only r s i = sym (agrees_liberty r _ s i.agrees) ∙ agrees_liberty result _ t (only i.answer i.is)
+one_library bytes result t only r s i = sym (agrees_told r _ s i.agrees) ∙ agrees_told result _ t (only i.answer i.is)
 
 pub one_source : (bytes : List ℕ) (result : Result Source FileRefusal) → IsToldResult result
-    → ((o : FileAnswer) → IsSourceAnswer bytes standard o → verilog.Agrees result (source_told o))
+    → ((o : FileAnswer) → IsSourceAnswer bytes standard o → answers.Agrees result (source_told o))
     → (r : Result Source FileRefusal) → IsToldResult r → IsSource bytes r → r ≡ result
-one_source bytes result t only r s i = sym (agrees_verilog r _ s i.agrees) ∙ agrees_verilog result _ t (only i.answer i.is)
+one_source bytes result t only r s i = sym (agrees_told r _ s i.agrees) ∙ agrees_told result _ t (only i.answer i.is)
 
 same_ok : {A B : Type 0} (r s : Result A B) (x y : A) → r ≡ Ok x → s ≡ Ok y → r ≡ s → x ≡ y
 same_ok r s x y p q e = cc

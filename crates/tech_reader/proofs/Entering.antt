@@ -13,7 +13,8 @@ use Rattle.csv.specs.Records.{field_at}
 use Rattle.tech_reader.specs.Fields.{first_of, wrong}
 use Rattle.tech_reader.specs.Held.{Holds, Kept}
 use Rattle.tech_reader.specs.Row.{items_of}
-use Rattle.tech_reader.specs.Tech.{Tells, double, key, model_of, refusal_after, size_of, supply_of}
+use Rattle.tech_reader.specs.Tech.{double, key, model_of, refusal_after, size_of, supply_of}
+use Rattle.file_rules.specs.Told.{TellsSome}
 use Rattle.tech_reader.specs.declared.parts.Parts.{Parts}
 
 -- a field that isn't there is past the end
@@ -59,7 +60,7 @@ judged limits parts rows row n h m lt =
     let no : nat_le limits.records (length rows) ≡ false = grind arith in
     rw (no, k, h.names) refl
 
-pub tells : (e : FileRefusal) (o : Option FileRefusal) → o ≡ Some e → Tells e o
+pub tells : (e : FileRefusal) (o : Option FileRefusal) → o ≡ Some e → TellsSome e o
 tells refusals.NoMemory o h = tt
 tells (refusals.Syntax line column) o h = h
 tells (refusals.TooMany kind number) o h = h
@@ -89,13 +90,13 @@ other_number limits parts rows row n h m lt four = judged limits parts rows row 
 
 -- one with a wrong field
 pub wrong_field : (limits : Limits) (parts : Parts) (rows : List (List (List ℕ))) (row : List (List ℕ)) (n : ℕ) (e : FileRefusal) → Holds parts rows → n ≡ length parts.names → n < limits.records
-    → Some e ≡ wrong limits (n + 1) row → Tells e (refusal_after limits rows row)
+    → Some e ≡ wrong limits (n + 1) row → TellsSome e (refusal_after limits rows row)
 wrong_field limits parts rows row n e h m lt w = tells e _ (judged limits parts rows row n h m lt ∙ rw (sym w) refl)
 
 -- one that stands a second time
 pub second_time : (limits : Limits) (parts : Parts) (rows : List (List (List ℕ))) (row : List (List ℕ)) (n : ℕ) (e : FileRefusal) → Holds parts rows → n ≡ length parts.names → n < limits.records
-    → None ≡ wrong limits (n + 1) row → is_known (key row) parts.names ≡ true → Tells e (double row (n + 1)) → Tells e (refusal_after limits rows row)
-second_time limits parts rows row n e h m lt w k t = subst (λ z. Tells e z) (sym (judged limits parts rows row n h m lt ∙ rw (sym w, k) refl)) t
+    → None ≡ wrong limits (n + 1) row → is_known (key row) parts.names ≡ true → TellsSome e (double row (n + 1)) → TellsSome e (refusal_after limits rows row)
+second_time limits parts rows row n e h m lt w k t = subst (λ z. TellsSome e z) (sym (judged limits parts rows row n h m lt ∙ rw (sym w, k) refl)) t
 
 -- one that is taken
 pub taken : (limits : Limits) (parts : Parts) (rows : List (List (List ℕ))) (row : List (List ℕ)) (n : ℕ) → Holds parts rows → n ≡ length parts.names → n < limits.records

@@ -9,7 +9,8 @@ use Rattle.text_scan.specs.declared.refusal.FileRefusal.TheVariants as refusals
 use Rattle.circuit.specs.declared.tech.Tech.{Tech}
 use Rattle.tech_reader.specs.Held.{Holds}
 use Rattle.tech_reader.specs.Records.{Gave, HasLeft, records_of}
-use Rattle.tech_reader.specs.Tech.{Agrees, Tells, first_refusal, refusal_after, tech_of, told}
+use Rattle.tech_reader.specs.Tech.{first_refusal, refusal_after, tech_of, told}
+use Rattle.file_rules.specs.Told.{Agrees, TellsSome}
 use Rattle.tech_reader.specs.declared.parts.Parts.{Parts}
 
 -- the records that were read and those that are left are those of the text, and none of the former is refused
@@ -72,12 +73,12 @@ ends text limits reader reader2 parts row s tech g e =
     told_none limits (records_of text) none ∙ ap Ok (ap tech_of all ∙ sym e)
 
 refused_so : (limits : Limits) (rows : List (List (List ℕ))) (done : List (List (List ℕ))) (row : List (List ℕ)) (rest : List (List (List ℕ))) (e : FileRefusal)
-    → first_refusal limits [] rows ≡ first_refusal limits done (row ∷ rest) → Tells e (refusal_after limits done row) → Agrees {X = Tech} (Err e) (told limits rows)
+    → first_refusal limits [] rows ≡ first_refusal limits done (row ∷ rest) → TellsSome e (refusal_after limits done row) → Agrees {X = Tech} (Err e) (told limits rows)
 refused_so limits rows done row rest refusals.NoMemory h t = tt
 refused_so limits rows done row rest (refusals.Syntax line column) h t = told_some limits rows _ (h ∙ here limits done row rest _ t)
 refused_so limits rows done row rest (refusals.TooMany kind number) h t = told_some limits rows _ (h ∙ here limits done row rest _ t)
 refused_so limits rows done row rest (refusals.DoubleName name line) h t = told_some limits rows _ (h ∙ here limits done row rest _ t)
 
 pub refused : (text : List ℕ) (limits : Limits) (reader reader2 : Reader (Bor (List ℕ))) (parts : Parts) (row : List (List ℕ)) (s : Stands text limits reader parts) (e : FileRefusal)
-    → Gave true row s.rest reader2 → Tells e (refusal_after limits s.done row) → Agrees {X = Tech} (Err e) (told limits (records_of text))
+    → Gave true row s.rest reader2 → TellsSome e (refusal_after limits s.done row) → Agrees {X = Tech} (Err e) (told limits (records_of text))
 refused text limits reader reader2 parts row s e g t = refused_so limits (records_of text) s.done row g.0 e (s.same ∙ rw g.1 refl) t

@@ -5,7 +5,7 @@ use Rattle.text_scan.specs.declared.limits.Limits.{Limits}
 use Rattle.text_scan.specs.declared.limits.LimitKind.TheVariants as limit_kinds
 use Rattle.text_scan.specs.declared.refusal.FileRefusal.{FileRefusal}
 use Rattle.text_scan.specs.declared.refusal.FileRefusal.TheVariants as refusals
-use Rattle.tech_reader.specs.Names.{is_name}
+use Rattle.file_rules.specs.Names.{is_name, is_too_long}
 use Rattle.tech_reader.specs.declared.fields.Kind.{Kind}
 use Rattle.tech_reader.specs.declared.fields.Kind.TheVariants as kinds
 
@@ -20,7 +20,7 @@ unless ok line column = if ok then None else Some (refusals.Syntax line column)
 -- nothing where the field is a name; its length is judged first
 unfoldable pub named : Limits → ℕ → ℕ → List ℕ → Option FileRefusal
 named limits line column field =
-    if nat_lt limits.name (length field) then Some (refusals.TooMany limit_kinds.Name limits.name)
+    if is_too_long limits field then Some (refusals.TooMany limit_kinds.Name limits.name)
     else unless (is_name field) line column
 
 unfoldable pub is_channel : List ℕ → Bool

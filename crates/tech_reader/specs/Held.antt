@@ -3,7 +3,8 @@ use Rattle.std.specs.Prelude.{◌≡◌, ◌++◌, ◌∷◌, [], ℕ, List, Non
 use Rattle.text_scan.specs.declared.limits.Limits.{Limits}
 use Rattle.text_scan.specs.declared.refusal.FileRefusal.{FileRefusal}
 use Rattle.tech_reader.specs.Row.{items_of}
-use Rattle.tech_reader.specs.Tech.{Tells, key, model_of, refusal_after, size_of, supply_of}
+use Rattle.tech_reader.specs.Tech.{key, model_of, refusal_after, size_of, supply_of}
+use Rattle.file_rules.specs.Told.{TellsSome}
 use Rattle.tech_reader.specs.declared.parts.Parts.{Parts}
 
 -- the parts are those of these records
@@ -16,7 +17,7 @@ pub record Holds (parts : Parts) (rows : List (List (List ℕ))) : Type 0 where
 -- entering a record after these
 abbrev pub Entered : Limits → Parts → List (List (List ℕ)) → List (List ℕ) → Result (Unit {0}) FileRefusal → Type 0
 Entered limits after rows row (Ok u) = (refusal_after limits rows row ≡ None) × Holds after (rows ++ row ∷ [])
-Entered limits after rows row (Err e) = Tells e (refusal_after limits rows row)
+Entered limits after rows row (Err e) = TellsSome e (refusal_after limits rows row)
 
 -- what a record and its key add to the parts
 pub record Kept (old : Parts) (new : Parts) (row : List (List ℕ)) (name : List ℕ) : Type 0 where

@@ -94,18 +94,3 @@ answer (Some refusal) value = Err refusal
 -- the first refusal where there is one, else the technology
 unfoldable pub told : Limits → List (List (List ℕ)) → Result Tech FileRefusal
 told limits rows = answer (first_refusal limits [] rows) (tech_of rows)
-
--- the result is this one, unless memory ran out
-abbrev pub Agrees : {X : Type 0} → Result X FileRefusal → Result X FileRefusal → Type 0
-Agrees (Ok x) y = y ≡ Ok x
-Agrees (Err refusals.NoMemory) y = Unit {0}
-Agrees (Err (refusals.Syntax line column)) y = y ≡ Err (refusals.Syntax line column)
-Agrees (Err (refusals.TooMany kind number)) y = y ≡ Err (refusals.TooMany kind number)
-Agrees (Err (refusals.DoubleName name line)) y = y ≡ Err (refusals.DoubleName name line)
-
--- the refusal is this one, unless memory ran out
-abbrev pub Tells : FileRefusal → Option FileRefusal → Type 0
-Tells refusals.NoMemory y = Unit {0}
-Tells (refusals.Syntax line column) y = y ≡ Some (refusals.Syntax line column)
-Tells (refusals.TooMany kind number) y = y ≡ Some (refusals.TooMany kind number)
-Tells (refusals.DoubleName name line) y = y ≡ Some (refusals.DoubleName name line)

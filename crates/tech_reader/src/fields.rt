@@ -5,10 +5,11 @@ ghost use Rattle.tech_reader.specs.Fields as spec;
 ghost use Rattle.tech_reader.specs.Row.{IsOf, refusal_of, row_of};
 ghost use Rattle.tech_reader.specs.Tech as tech;
 ghost use Rattle.tech_reader.specs.declared.fields.Kind.TheVariants as kinds;
+ghost use Rattle.file_rules.specs.Told.{TellsSome};
 
-use crate::names::is_name;
 use circuit::{ModelCard, Size, Supply};
 use csv::ByteRecord;
+use file_rules::{is_name, is_too_long};
 use std::alloc::Global;
 use text_scan::{FileRefusal, LimitKind, Limits, NoMemory, PinKind, Text};
 
@@ -93,7 +94,7 @@ fn unless(ok: bool, line: u32, column: u32) -> Result<(), FileRefusal>
 fn check_name(limits: &Limits, line: u32, column: u32, field: &[u8]) -> Result<(), FileRefusal>
     ensures { refusal_of result ≡ spec.named limits.now line column field.now }
 {
-    if (limits.name as usize) < field.len() {
+    if is_too_long(limits, field) {
         return Err(FileRefusal::TooMany {
             kind: LimitKind::Name,
             number: limits.name,
@@ -198,7 +199,7 @@ impl<'a> Fields<'a> {
     /// The refusal of a record whose key stands a second time.
     pub fn double_name(&self, alloc: Global, kind: Kind, line: u32) -> FileRefusal
         requires { IsOf kind self.now }
-        ensures { tech.Tells result (tech.double (row_of self.now) line) }
+        ensures { TellsSome result (tech.double (row_of self.now) line) }
     {
         let shown = match kind {
             Kind::Size => self.third,

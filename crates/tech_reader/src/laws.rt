@@ -1,6 +1,6 @@
 //! Laws of keys.
 ghost use Rattle.std.specs.Prelude.{◌≡◌, true};
-ghost use Rattle.tech_reader.specs.Names.{has_name_bytes};
+ghost use Rattle.file_rules.specs.Names.{has_name_bytes};
 ghost use Rattle.tech_reader.specs.Tech.{joined};
 
 /// Joined texts are equal just where their parts are, if the first parts have bytes of names alone. A kind and a name

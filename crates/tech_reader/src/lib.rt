@@ -3,7 +3,6 @@
 
 mod fields;
 mod laws;
-mod names;
 mod parts;
 mod public_call;
 mod rows;

@@ -1,6 +1,7 @@
 //! The public call.
 ghost use Rattle.tech_reader.specs.Records.{records_of};
-ghost use Rattle.tech_reader.specs.Tech.{Agrees, told};
+ghost use Rattle.tech_reader.specs.Tech.{told};
+ghost use Rattle.file_rules.specs.Told.{Agrees};
 
 use crate::parts::Parts;
 use crate::rows::{next_row, open};

@@ -20,7 +20,8 @@ use Rattle.verilog_parts.specs.declared.module_text.ModuleText.{ModuleText}
 use Rattle.verilog_parts.specs.declared.module_phase.ModuleAction.{ModuleAction}
 use Rattle.verilog_parts.specs.declared.module_phase.ModuleAction.TheVariants as actions
 use Rattle.verilog_parts.specs.Looks.{text, look_of}
-use Rattle.verilog_parts.specs.Names.{content, is_name, is_too_long}
+use Rattle.verilog_parts.specs.Names.{content}
+use Rattle.file_rules.specs.Names.{is_name, is_too_long}
 use Rattle.verilog_parts.specs.Ports.{names_of, directed, undirected}
 
 abbrev pub ModuleOutcome : Type 0

@@ -22,7 +22,7 @@ pub use look::{Look, look_of};
 pub use module_phase::{ModuleAction, ModuleMove, ModulePhase};
 pub use module_reader::ModuleReader;
 pub use module_text::{Declared, ModuleText};
-pub use names::{content, is_name, is_too_long, text, word_of};
+pub use names::{content, text, word_of};
 pub use ports::Ports;
 pub use row::Row;
 pub use udp_phase::{UdpAction, UdpMove, UdpPhase};

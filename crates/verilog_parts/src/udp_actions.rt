@@ -6,10 +6,11 @@ ghost use Rattle.verilog_parts.specs.Does.{Does};
 
 use crate::halt::{Halt, Refusal};
 use crate::look::{Look, look_of};
-use crate::names::{content, is_name, is_too_long, text};
+use crate::names::{content, text};
 use crate::row::Row;
 use crate::udp_phase::UdpAction;
 use crate::udp_text::{PrimitiveText, UdpDeclared};
+use file_rules::{is_name, is_too_long};
 use name_index::Names;
 use std::alloc::Global;
 use text_scan::{Items, LimitKind, Limits};

@@ -8,7 +8,7 @@ use Rattle.verilog_directives.specs.Left.{left_of}
 use Rattle.verilog_reader.specs.declared.file_text.FileText.{FileText}
 use Rattle.verilog_reader.specs.FileActions.{no_file}
 use Rattle.verilog_reader.specs.File.{FileAnswer, IsSource}
-use Rattle.verilog_reader.specs.Told.{Agrees}
+use Rattle.file_rules.specs.Told.{Agrees}
 use Rattle.verilog_reader.specs.Promise.{source_of, told, IsAnswered, IsRead}
 use Rattle.verilog_reader.proofs.Files.{one_answer}
 use Rattle.verilog_reader.proofs.Whole.{n}

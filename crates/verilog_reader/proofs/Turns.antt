@@ -18,7 +18,8 @@ use Rattle.verilog_parts.specs.declared.udp_phase.UdpPhase.{UdpPhase}
 use Rattle.verilog_parts.specs.declared.udp_phase.UdpPhase.TheVariants as udp_phases
 use Rattle.verilog_parts.specs.declared.udp_reader.UdpReader.{UdpReader}
 use Rattle.verilog_parts.specs.Looks.{look_of, is_passed}
-use Rattle.verilog_parts.specs.Names.{content, is_name, is_too_long, word_of}
+use Rattle.verilog_parts.specs.Names.{content, word_of}
+use Rattle.file_rules.specs.Names.{is_name, is_too_long}
 use Rattle.verilog_parts.specs.ModuleActions.{no_module}
 use Rattle.verilog_parts.specs.ModuleGrammar.{module_body, is_beside, is_off}
 use Rattle.verilog_parts.specs.ModuleMoves as modules

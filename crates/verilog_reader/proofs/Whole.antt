@@ -48,7 +48,7 @@ use Rattle.verilog_reader.specs.FileActions.{perform_file, no_file, refused_modu
 use Rattle.verilog_reader.specs.File.{FileAnswer, IsSource}
 use Rattle.verilog_reader.specs.FileSteps.{Stepped, at_top, at_line, at_module_word, at_primitive_word, outside_step, file_move, rest_step, skipped, moved, stop_module, module_refused, in_module, stop_udp, udp_refused, in_udp, file_taken, file_begun, is_done}
 use Rattle.verilog_reader.specs.Bounds.{Sits, IsLive}
-use Rattle.verilog_reader.specs.Told.{Steps}
+use Rattle.file_rules.specs.Told.{Steps}
 use Rattle.verilog_reader.specs.Promise.{IsRead}
 use Rattle.verilog_reader.proofs.Files.{one_more}
 use Rattle.verilog_reader.proofs.PartsFollow.{Settles, settles}

@@ -12,7 +12,8 @@ use Rattle.verilog_parts.specs.declared.halt.Refusal.{Refusal}
 use Rattle.verilog_parts.specs.declared.halt.Refusal.TheVariants as refusals
 use Rattle.verilog_parts.specs.declared.module_text.ModuleText.{ModuleText}
 use Rattle.verilog_parts.specs.declared.udp_text.PrimitiveText.{PrimitiveText}
-use Rattle.verilog_parts.specs.Names.{content, is_name, is_too_long}
+use Rattle.verilog_parts.specs.Names.{content}
+use Rattle.file_rules.specs.Names.{is_name, is_too_long}
 use Rattle.verilog_reader.specs.declared.file_text.Opened.{Opened}
 use Rattle.verilog_reader.specs.declared.file_text.Opened.TheVariants as openings
 use Rattle.verilog_reader.specs.declared.file_text.FileText.{FileText}

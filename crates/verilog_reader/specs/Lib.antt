@@ -2,7 +2,6 @@ pub mod FileActions
 pub mod FileGrammar
 pub mod Refusals
 pub mod File
-pub mod Told
 pub mod FileSteps
 pub mod Promise
 pub mod Bounds

@@ -5,7 +5,7 @@ use Rattle.text_scan.specs.declared.refusal.FileRefusal.{FileRefusal}
 use Rattle.verilog_source.specs.declared.Source.{Source}
 use Rattle.verilog_reader.specs.declared.file_text.FileText.{FileText}
 use Rattle.verilog_reader.specs.File.{FileAnswer, IsSource}
-use Rattle.verilog_reader.specs.Told.{Agrees}
+use Rattle.file_rules.specs.Told.{Agrees}
 
 -- no limit is above the standard one
 pub record IsWithin (limits : Limits) : Type 0 where

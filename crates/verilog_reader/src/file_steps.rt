@@ -5,7 +5,7 @@ ghost use Rattle.verilog_parts.specs.ModuleMoves as modules;
 ghost use Rattle.verilog_parts.specs.UdpMoves as udps;
 ghost use Rattle.verilog_parts.specs.Looks as looks;
 ghost use Rattle.verilog_reader.specs.FileSteps as spec;
-ghost use Rattle.verilog_reader.specs.Told.{Steps};
+ghost use Rattle.file_rules.specs.Told.{Steps};
 ghost use Rattle.verilog_reader.specs.declared.file_phase.FileMove.TheVariants as file_moves;
 ghost use Rattle.verilog_parts.specs.declared.halt.Refusal.TheVariants as part_refusals;
 

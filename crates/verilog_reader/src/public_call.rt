@@ -2,7 +2,7 @@
 ghost use Rattle.std.specs.Prelude.{◌≡◌};
 ghost use Rattle.verilog_reader.specs.File.{FileAnswer, IsSource};
 ghost use Rattle.verilog_reader.specs.Promise.{IsAnswered, IsWithin, source_of, told};
-ghost use Rattle.verilog_reader.specs.Told.{Agrees};
+ghost use Rattle.file_rules.specs.Told.{Agrees};
 
 use crate::file_text::FileText;
 use crate::reading::read_file;

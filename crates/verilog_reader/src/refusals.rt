@@ -1,7 +1,7 @@
 //! How a refusal of the file is told.
 ghost use Rattle.std.specs.Prelude.{◌≡◌, ◌∷◌, []};
 ghost use Rattle.verilog_reader.specs.Refusals as spec;
-ghost use Rattle.verilog_reader.specs.Told.{Tells};
+ghost use Rattle.file_rules.specs.Told.{Tells};
 
 use std::alloc::Global;
 use text_scan::{FileRefusal, LimitKind, Limits, Text, Token};

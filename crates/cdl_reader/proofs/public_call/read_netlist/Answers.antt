@@ -4,7 +4,8 @@ use Rattle.grammar.proofs.Answer.{answers}
 use Rattle.grammar.proofs.Unique.{answer_is_read}
 use Rattle.cdl_cards.specs.Cards.{cards_of}
 use Rattle.cdl_reader.specs.Grammar.{netlist, nothing}
-use Rattle.cdl_reader.specs.Told.{Agrees, told}
+use Rattle.cdl_reader.specs.Told.{told}
+use Rattle.file_rules.specs.Told.{Agrees}
 use Rattle.cdl_reader.proofs.Simple.{netlist_simple}
 use Rattle.cdl_reader.proofs.public_call.read_netlist.Goals as goal
 

@@ -1,7 +1,8 @@
 use Rattle.std.proofs.Common.{Err, subst}
 use Rattle.text_scan.specs.declared.limits.Limits.{Limits}
 use Rattle.grammar.specs.Answers.{IsAnswer}
-use Rattle.liberty_statements.specs.Answer.{library_file, file_tokens, told, Agrees}
+use Rattle.liberty_statements.specs.Answer.{library_file, file_tokens, told}
+use Rattle.file_rules.specs.Told.{Agrees}
 use Rattle.liberty_statements.specs.Does.{nothing}
 use Rattle.liberty_statements.specs.ToCome.{Answer}
 use Rattle.liberty_reader.specs.Cells.{library as library_of}

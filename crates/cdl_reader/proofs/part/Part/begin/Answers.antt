@@ -2,7 +2,7 @@ use Rattle.std.proofs.Common.{sym, ◌∙◌, ap, subst, map, Ok, Err}
 use Rattle.cdl_cards.specs.Left.{card_left}
 use Rattle.cdl_reader.specs.Actions.{adds, begun_part, word_bytes}
 use Rattle.cdl_reader.specs.Parts.{no_part}
-use Rattle.cdl_reader.specs.Told.{Agrees}
+use Rattle.file_rules.specs.Told.{Agrees}
 use Rattle.cdl_reader.specs.Words.{first_fault, operands}
 use Rattle.cdl_reader.specs.declared.part.Part.{Part}
 use Rattle.cdl_reader.proofs.Begins.{begun_whole, steps_agree}

@@ -1,7 +1,8 @@
--- Which words are names, and how a refused word is shown.
+-- Which texts are names, and the words by which refused constructs are shown.
 use Rattle.std.specs.Prelude.{ℕ, Bool, true, false, ◌==◌, ◌&&◌, ◌||◌, nat_le, nat_lt, if◌then◌else◌, List, [], ◌∷◌, length, codes}
 use Rattle.std.specs.Str.{bytes_eq}
 use Rattle.std.specs.List.{list_all}
+use Rattle.text_scan.specs.declared.limits.Limits.{Limits}
 
 -- ( ) { } ; , " = ' \
 unfoldable pub is_no_name_byte : ℕ → Bool
@@ -21,12 +22,22 @@ has_name_bytes bs = list_all is_name_byte bs
 unfoldable pub is_name : List ℕ → Bool
 is_name bs = nat_lt 0 (length bs) && (has_name_bytes bs && (if is_mark bs then false else true))
 
+abbrev pub is_too_long : Limits → List ℕ → Bool
+is_too_long limits name = nat_lt limits.name (length name)
+
 abbrev pub is_graphic : ℕ → Bool
 is_graphic b = nat_le 33 b && nat_le b 126
 
 abbrev pub are_graphic : List ℕ → Bool
-are_graphic bs = list_all is_graphic bs
+are_graphic w = list_all is_graphic w
 
--- the word by which a refused card is shown: wide, where it is too long or has a byte that isn't shown
-unfoldable pub shown_word : List ℕ → List ℕ
-shown_word bs = if nat_le (length bs) 128 && are_graphic bs then bs else codes "wide"
+abbrev pub is_shown : List ℕ → Bool
+is_shown w = nat_lt 0 (length w) && (nat_le (length w) 128 && are_graphic w)
+
+-- a word that can't be shown is wide
+abbrev pub shown_word : List ℕ → List ℕ
+shown_word w = if is_shown w then w else codes "wide"
+
+-- a string that is no name is shown as string
+abbrev pub shown_string : List ℕ → List ℕ
+shown_string s = if is_name s && nat_le (length s) 128 then s else codes "string"

@@ -1,6 +1,8 @@
-//! Names.
+//! Which texts are names.
 ghost use Rattle.std.specs.Prelude.{◌≡◌};
-ghost use Rattle.tech_reader.specs.Names as spec;
+ghost use Rattle.file_rules.specs.Names as spec;
+
+use text_scan::Limits;
 
 #[tactic(auto, unfolding(crate::specs::Names::is_no_name_byte))]
 fn is_no_name_byte(byte: u8) -> bool
@@ -38,4 +40,11 @@ pub fn is_name(bytes: &[u8]) -> bool
     ensures { result ≡ spec.is_name bytes.now }
 {
     0 < bytes.len() && has_name_bytes(bytes) && !is_mark(bytes)
+}
+
+/// Whether the name has more bytes than the limits allow.
+pub fn is_too_long(limits: &Limits, name: &[u8]) -> bool
+    ensures { result ≡ spec.is_too_long limits.now name.now }
+{
+    (limits.name as usize) < name.len()
 }

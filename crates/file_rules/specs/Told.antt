@@ -1,5 +1,5 @@
--- What the parts of a reader answer, unless memory runs out.
-use Rattle.std.specs.Prelude.{◌≡◌, Result, Ok, Err}
+-- What readers of files answer, unless memory runs out.
+use Rattle.std.specs.Prelude.{◌≡◌, Option, Some, Result, Ok, Err}
 use Rattle.text_scan.specs.declared.refusal.FileRefusal.{FileRefusal}
 use Rattle.text_scan.specs.declared.refusal.FileRefusal.TheVariants as refusals
 
@@ -25,3 +25,10 @@ Tells refusals.NoMemory y = Unit {0}
 Tells (refusals.Syntax line column) y = refusals.Syntax line column ≡ y
 Tells (refusals.TooMany kind number) y = refusals.TooMany kind number ≡ y
 Tells (refusals.DoubleName name line) y = refusals.DoubleName name line ≡ y
+
+-- there is a refusal, and it is this one
+abbrev pub TellsSome : FileRefusal → Option FileRefusal → Type 0
+TellsSome refusals.NoMemory o = Unit {0}
+TellsSome (refusals.Syntax line column) o = o ≡ Some (refusals.Syntax line column)
+TellsSome (refusals.TooMany kind number) o = o ≡ Some (refusals.TooMany kind number)
+TellsSome (refusals.DoubleName name line) o = o ≡ Some (refusals.DoubleName name line)
