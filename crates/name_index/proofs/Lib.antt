@@ -1,3 +1,3 @@
 mod Keys
 pub mod Places
-mod Entries
+mod Index

@@ -47,21 +47,6 @@ get_within [] k h = absurd (omega arith)
 get_within (x ∷ xs) zero h = (x, refl)
 get_within (x ∷ xs) (suc k) h = get_within xs k (omega arith)
 
--- what stood at a place still does when the list goes on
-pub get_front : {X : Type 0} (xs ys : List X) (k : ℕ) (x : X) → slice_get xs k ≡ Some x → slice_get (xs ++ ys) k ≡ Some x
-get_front [] ys k x h = absurd (cc)
-get_front (y ∷ xs) ys zero x h = h
-get_front (y ∷ xs) ys (suc k) x h = get_front xs ys k x h
-
--- the last item stands where the others end
-pub get_last : {X : Type 0} (xs : List X) (x : X) → slice_get (xs ++ x ∷ []) (length xs) ≡ Some x
-get_last [] x = refl
-get_last (y ∷ xs) x = get_last xs x
-
-pub get_past : {X : Type 0} (xs : List X) → slice_get xs (length xs) ≡ None
-get_past [] = refl
-get_past (x ∷ xs) = get_past xs
-
 -- a name stands at its place
 pub stands_at_place : (names : List (List ℕ)) (q : List ℕ) (k : ℕ) → place_of names q ≡ Some k → slice_get names k ≡ Some q
 stands_at_place names q k h =
@@ -91,14 +76,11 @@ fresh_at true o n h = ap (λ o. option_or o (Some n)) (h refl)
 fresh_at false None n h = refl
 fresh_at false (Some k) n h = refl
 
-some_of : (o : Option ℕ) (k : ℕ) → o ≡ Some k → IsSome o
-some_of o k h = ap is_some h
-
 -- a name that came again leaves every place
-pub place_known : (names : List (List ℕ)) (name : List ℕ) (k : ℕ) (q : List ℕ) → place_of names name ≡ Some k → place_of (names ++ name ∷ []) q ≡ place_of names q
-place_known names name k q h =
+pub place_known : (names : List (List ℕ)) (name q : List ℕ) → IsSome (place_of names name) → place_of (names ++ name ∷ []) q ≡ place_of names q
+place_known names name q known =
     place_more names name q
-    ∙ kept_at (bytes_eq q name) (place_of names q) (length names) (λ t. subst (λ q. IsSome (place_of names q)) (sym ((bytes_decides q name).0 t)) (some_of _ k h))
+    ∙ kept_at (bytes_eq q name) (place_of names q) (length names) (λ t. subst (λ q. IsSome (place_of names q)) (sym ((bytes_decides q name).0 t)) known)
 
 -- a new name has the last place
 pub place_new : (names : List (List ℕ)) (name q : List ℕ) → place_of names name ≡ None → place_of (names ++ name ∷ []) q ≡ cond (bytes_eq name q) (Some (length names)) (place_of names q)

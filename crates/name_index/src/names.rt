@@ -1,16 +1,22 @@
+ghost use Rattle.std.specs.Prelude.{◌≡◌, [], ◌∷◌, ◌++◌, length, OnOk, OnErr};
+ghost use Rattle.name_index.specs.Places.{is_known, place_of as spec_place_of};
+
+use crate::first_places::FirstPlaces;
 use std::alloc::Global;
-use std::collections::BTreeMap;
 use std::marker::Model;
-use text_scan::NoMemory;
+use text_scan::{NoMemory, Text};
+
+// The most names without an index. To look through so few costs less than a map.
+const MOST_UNINDEXED: usize = 16;
 
 /// Names in the order in which they came, each found at its first place.
 ///
-/// Takes the memory of the distinct names, and a word for each name.
+/// Takes the memory of all names. Past 16 names an index takes that of the distinct names once
+/// more, and then a name is found in logarithmic time.
 #[derive(Drop)]
 pub struct Names {
-    places: BTreeMap<Vec<u8>, usize>,
-    // the first place of each name, in order
-    firsts: Vec<usize>,
+    names: Vec<Text>,
+    index: Option<FirstPlaces>,
 }
 
 impl Model for Names {
@@ -18,37 +24,44 @@ impl Model for Names {
 
     ghost Value = { List (List ℕ) };
 
-    ghost use Rattle.name_index.specs.Held.{names_of, IsHeld};
+    ghost use Rattle.name_index.specs.Held.{IsHeldBy};
 
-    ghost view = { names_of };
+    ghost view = { λ n. n.names.items };
 
-    ghost invariant = { IsHeld };
+    ghost invariant = { λ n. IsHeldBy n.names.items n.index };
 }
 
 impl Names {
-    ghost use Rattle.std.specs.Prelude.{◌≡◌, [], ◌∷◌, ◌++◌, length, OnOk, OnErr};
-    ghost use Rattle.name_index.specs.Places.{is_known, place_of as spec_place_of};
-
     pub fn new(alloc: Global) -> Names
         ensures { result ≡ [] }
     {
         Names {
-            places: BTreeMap::new(alloc),
-            firsts: Vec::new(alloc),
+            names: Vec::new(alloc),
+            index: None,
         }
     }
 
     pub fn len(&self) -> usize
         ensures { result ≡ length self.now }
     {
-        self.firsts.len()
+        self.names.len()
+    }
+
+    /// The names in order.
+    pub fn as_slice(&self) -> &[Text]
+        ensures { result.now ≡ self.now }
+    {
+        self.names.as_slice()
     }
 
     /// The first place of the name, counted from 0.
     pub fn place_of(&self, name: &[u8]) -> Option<usize>
         ensures { result ≡ spec_place_of self.now name.now }
     {
-        self.places.get(name).copied()
+        match &self.index {
+            Some(index) => index.place_of(name),
+            None => place_among(self.names.as_slice(), name),
+        }
     }
 
     pub fn contains(&self, name: &[u8]) -> bool
@@ -62,15 +75,23 @@ impl Names {
         ensures ok { OnOk result (self.new ≡ self.old ++ name.now ∷ []) }
         ensures err { OnErr result (self.new ≡ self.old) }
     {
-        if let Some(first) = self.places.get(name).copied() {
-            self.firsts.push(first)?;
-            return Ok(());
+        let text = Text::from_bytes(alloc, name)?;
+        self.names.try_reserve(1)?;
+        let place = self.names.len();
+        if let Some(index) = &mut self.index {
+            index.add(alloc, name, place)?;
+        } else if place == MOST_UNINDEXED {
+            let mut index = FirstPlaces::of(alloc, self.names.as_slice())?;
+            index.add(alloc, name, place)?;
+            self.index = Some(index);
         }
-        let key = name.to_vec(alloc)?;
-        self.firsts.try_reserve(1)?;
-        let place = self.firsts.len();
-        let _ = self.places.insert(key, place)?;
-        self.firsts.push_reserved(place);
+        self.names.push_reserved(text);
         Ok(())
     }
+}
+
+fn place_among(names: &[Text], name: &[u8]) -> Option<usize>
+    ensures { result ≡ spec_place_of names.now name.now }
+{
+    names.iter().position(|known| known.as_bytes() == name)
 }
