@@ -5,11 +5,12 @@ ghost use Rattle.module_net.specs.Elements as spec;
 ghost use Rattle.module_net.specs.Naming.{firsts, place_in};
 ghost use Rattle.module_net.specs.Refusing.{Tells};
 
-use crate::name_list::{NameList, add, place_in};
+use crate::name_list::{add, place_in};
 use crate::primitives::Primitives;
 use crate::refusal::GateRefusal;
 use crate::word::{gate_word, outputs_by};
 use gate_settle::{Function, Gate, Operand};
+use name_index::Names;
 use std::alloc::Global;
 use text_scan::{Items, NoMemory};
 use udp_table::Udp;
@@ -63,7 +64,7 @@ pub fn check_elements(
 
 // ---- primitives that are used
 
-fn add_primitive(alloc: Global, used: &mut NameList, element: &Element) -> Result<(), NoMemory>
+fn add_primitive(alloc: Global, used: &mut Names, element: &Element) -> Result<(), NoMemory>
     ensures { OnOk result (used.new ≡ used.old ++ firsts used.old (spec.primitive_name element.now)) }
 {
     if gate_word(element.kind.as_bytes()).is_some() {
@@ -73,10 +74,10 @@ fn add_primitive(alloc: Global, used: &mut NameList, element: &Element) -> Resul
 }
 
 /// The primitives that elements name, by first use.
-pub fn used_in(alloc: Global, elements: &[Element]) -> Result<NameList, NoMemory>
+pub fn used_in(alloc: Global, elements: &[Element]) -> Result<Names, NoMemory>
     ensures { IfOk result (λ used. used ≡ spec.used_in elements.now) }
 {
-    let mut used = NameList::new(alloc);
+    let mut used = Names::new(alloc);
     for element in elements {
         add_primitive(alloc, &mut used, element)?;
     }
@@ -101,7 +102,7 @@ fn add_table(
 pub fn tables_of(
     alloc: Global,
     primitives: &Primitives,
-    used: &NameList,
+    used: &Names,
 ) -> Result<Items<Udp>, NoMemory>
     ensures { IfOk result (λ tables. tables ≡ spec.tables_of primitives.now used.now) }
 {
@@ -121,7 +122,7 @@ pub struct Places {
     pub state: usize,
 }
 
-fn operand(nets: &NameList, terminal: &Terminal) -> Operand
+fn operand(nets: &Names, terminal: &Terminal) -> Operand
     ensures { result ≡ spec.operand nets.now terminal.now }
 {
     match terminal {
@@ -130,11 +131,7 @@ fn operand(nets: &NameList, terminal: &Terminal) -> Operand
     }
 }
 
-fn operands(
-    alloc: Global,
-    nets: &NameList,
-    terminals: &[Terminal],
-) -> Result<Items<Operand>, NoMemory>
+fn operands(alloc: Global, nets: &Names, terminals: &[Terminal]) -> Result<Items<Operand>, NoMemory>
     ensures { IfOk result (λ inputs. inputs ≡ map (spec.operand nets.now) terminals.now) }
 {
     let mut inputs = Items::new(alloc);
@@ -144,11 +141,7 @@ fn operands(
     Ok(inputs)
 }
 
-fn add_driven(
-    nets: &NameList,
-    terminal: &Terminal,
-    outputs: &mut Items<usize>,
-) -> Result<(), NoMemory>
+fn add_driven(nets: &Names, terminal: &Terminal, outputs: &mut Items<usize>) -> Result<(), NoMemory>
     ensures { OnOk result (outputs.new ≡ outputs.old ++ spec.driven nets.now terminal.now) }
 {
     if let Terminal::Net(name) = terminal {
@@ -158,7 +151,7 @@ fn add_driven(
 }
 
 pub fn driven(
-    nets: &NameList,
+    nets: &Names,
     terminals: &[Terminal],
     outputs: &mut Items<usize>,
 ) -> Result<(), NoMemory>
@@ -205,7 +198,7 @@ pub fn holds_state(primitives: &Primitives, element: &Element) -> bool
     }
 }
 
-fn function(sequential: bool, used: &NameList, state: usize, element: &Element) -> Function
+fn function(sequential: bool, used: &Names, state: usize, element: &Element) -> Function
     ensures { result ≡ spec.function_by (spec.gate_word element.now.kind) sequential (place_in used.now element.now.kind) state }
 {
     if let Some(word) = gate_word(element.kind.as_bytes()) {
@@ -226,8 +219,8 @@ fn function(sequential: bool, used: &NameList, state: usize, element: &Element) 
 pub fn gate_of(
     alloc: Global,
     primitives: &Primitives,
-    used: &NameList,
-    nets: &NameList,
+    used: &Names,
+    nets: &Names,
     places: Places,
     element: &Element,
 ) -> Result<Gate, NoMemory>

@@ -3,9 +3,9 @@ ghost use Rattle.std.specs.Prelude.{◌≡◌, ◌<◌, ◌+◌, ◌^◌, ◌++�
 ghost use Rattle.module_net.specs.Elements as spec;
 
 use crate::elements::{Places, driven, gate_of, holds_state, output_terminals};
-use crate::name_list::NameList;
 use crate::primitives::Primitives;
 use gate_settle::Gate;
+use name_index::Names;
 use std::alloc::Global;
 use text_scan::{Items, NoMemory};
 use verilog_source::Element;
@@ -21,8 +21,8 @@ fn next_place(holds_state: bool, state: usize) -> usize
 pub fn gates_of(
     alloc: Global,
     primitives: &Primitives,
-    used: &NameList,
-    nets: &NameList,
+    used: &Names,
+    nets: &Names,
     elements: &[Element],
 ) -> Result<Vec<Gate>, NoMemory>
     ensures { IfOk result (λ gates. gates.items ≡ spec.gates_from primitives.now used.now nets.now 0 0 elements.now) }
@@ -42,7 +42,7 @@ pub fn gates_of(
 
 fn add_state_net(
     primitives: &Primitives,
-    nets: &NameList,
+    nets: &Names,
     element: &Element,
     state_nets: &mut Items<usize>,
 ) -> Result<(), NoMemory>
@@ -58,7 +58,7 @@ fn add_state_net(
 pub fn state_nets_of(
     alloc: Global,
     primitives: &Primitives,
-    nets: &NameList,
+    nets: &Names,
     elements: &[Element],
 ) -> Result<Items<usize>, NoMemory>
     ensures { IfOk result (λ state_nets. state_nets ≡ spec.state_nets_of primitives.now nets.now elements.now) }

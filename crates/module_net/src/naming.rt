@@ -3,14 +3,15 @@ ghost use Rattle.std.specs.Prelude.{◌≡◌, ◌++◌, ◌∷◌, [], IfOk, On
 ghost use Rattle.std.specs.List.{flat_map};
 ghost use Rattle.module_net.specs.Naming as spec;
 
-use crate::name_list::{NameList, add};
+use crate::name_list::add;
+use name_index::Names;
 use std::alloc::Global;
 use tern_core::Tern;
 use text_scan::{NoMemory, Text};
 use verilog_source::{Element, Module, Port, Terminal};
 
 #[tactic(auto, using(crate::proofs::Firsts::firsts_append))]
-fn add_ports(alloc: Global, names: &mut NameList, ports: &[Port]) -> Result<(), NoMemory>
+fn add_ports(alloc: Global, names: &mut Names, ports: &[Port]) -> Result<(), NoMemory>
     ensures { OnOk result (names.new ≡ names.old ++ spec.firsts names.old (map (λ p. p.name) ports.now)) }
 {
     for port in ports {
@@ -20,11 +21,7 @@ fn add_ports(alloc: Global, names: &mut NameList, ports: &[Port]) -> Result<(), 
 }
 
 #[tactic(auto, using(crate::proofs::Firsts::firsts_append))]
-fn add_supplies(
-    alloc: Global,
-    names: &mut NameList,
-    supplies: &[(Text, Tern)],
-) -> Result<(), NoMemory>
+fn add_supplies(alloc: Global, names: &mut Names, supplies: &[(Text, Tern)]) -> Result<(), NoMemory>
     ensures { OnOk result (names.new ≡ names.old ++ spec.firsts names.old (map (λ s. s.0) supplies.now)) }
 {
     for supply in supplies {
@@ -33,7 +30,7 @@ fn add_supplies(
     Ok(())
 }
 
-fn add_terminal(alloc: Global, names: &mut NameList, terminal: &Terminal) -> Result<(), NoMemory>
+fn add_terminal(alloc: Global, names: &mut Names, terminal: &Terminal) -> Result<(), NoMemory>
     ensures { OnOk result (names.new ≡ names.old ++ spec.firsts names.old (spec.terminal_names terminal.now)) }
 {
     match terminal {
@@ -43,11 +40,7 @@ fn add_terminal(alloc: Global, names: &mut NameList, terminal: &Terminal) -> Res
 }
 
 #[tactic(auto, using(crate::proofs::Firsts::firsts_append))]
-fn add_terminals(
-    alloc: Global,
-    names: &mut NameList,
-    terminals: &[Terminal],
-) -> Result<(), NoMemory>
+fn add_terminals(alloc: Global, names: &mut Names, terminals: &[Terminal]) -> Result<(), NoMemory>
     ensures { OnOk result (names.new ≡ names.old ++ spec.firsts names.old (flat_map spec.terminal_names terminals.now)) }
 {
     for terminal in terminals {
@@ -57,14 +50,14 @@ fn add_terminals(
 }
 
 #[tactic(auto, unfolding(crate::specs::Naming::element_names))]
-fn add_element(alloc: Global, names: &mut NameList, element: &Element) -> Result<(), NoMemory>
+fn add_element(alloc: Global, names: &mut Names, element: &Element) -> Result<(), NoMemory>
     ensures { OnOk result (names.new ≡ names.old ++ spec.firsts names.old (spec.element_names element.now)) }
 {
     add_terminals(alloc, names, element.terminals.as_slice())
 }
 
 #[tactic(auto, using(crate::proofs::Firsts::firsts_append))]
-fn add_elements(alloc: Global, names: &mut NameList, elements: &[Element]) -> Result<(), NoMemory>
+fn add_elements(alloc: Global, names: &mut Names, elements: &[Element]) -> Result<(), NoMemory>
     ensures { OnOk result (names.new ≡ names.old ++ spec.firsts names.old (flat_map spec.element_names elements.now)) }
 {
     for element in elements {
@@ -75,10 +68,10 @@ fn add_elements(alloc: Global, names: &mut NameList, elements: &[Element]) -> Re
 
 /// The module's nets by first appearance: in its ports, in its supplies, in the terminals of its elements.
 #[tactic(auto, using(crate::proofs::Firsts::three_lists))]
-pub fn nets(alloc: Global, module: &Module) -> Result<NameList, NoMemory>
+pub fn nets(alloc: Global, module: &Module) -> Result<Names, NoMemory>
     ensures { IfOk result (λ names. names ≡ spec.nets_of «module».now) }
 {
-    let mut names = NameList::new(alloc);
+    let mut names = Names::new(alloc);
     add_ports(alloc, &mut names, module.ports.as_slice())?;
     add_supplies(alloc, &mut names, module.supplies.as_slice())?;
     add_elements(alloc, &mut names, module.elements.as_slice())?;

@@ -1,12 +1,12 @@
 //! A module's network with its names.
-use crate::name_list::NameList;
 use gate_settle::GateNet;
+use name_index::Names;
 use std::marker::Model;
 
 /// The network of a module, whose nets stand in the order in which the module's text names them first.
 #[derive(Drop)]
 pub struct ModuleNet {
-    pub(crate) nets: NameList,
+    pub(crate) nets: Names,
     pub(crate) net: GateNet,
 }
 

@@ -3,9 +3,9 @@ ghost use Rattle.std.specs.Prelude.{◌≡◌, ◌++◌, ◌∷◌, [], length, 
 ghost use Rattle.verilog_reader.specs.FileActions as spec;
 ghost use Rattle.verilog_parts.specs.Does.{Does};
 
-use file_rules::{is_name, is_too_long};
 use crate::file_phase::FileAction;
 use crate::file_text::{FileText, Opened};
+use file_rules::{is_name, is_too_long};
 use name_index::Names;
 use std::alloc::Global;
 use text_scan::{Items, LimitKind, Limits, Text};
