@@ -262,6 +262,10 @@ def accepted():
     mux = Module("MULTIPLEXER", "A B S", "Y", ["not(Y, y)", "mux m(y, A, B, S)"])
     yield Case(mux, "A B S", steps=vectors("01X", 3), show="y Y")
     yield Case(mux, "S B A", steps=["010", "110", "001", "101"], show="y Y")
+    inverted = Module("INVERTED_AND", "A B", "Y", ["not(Y, y)", "and(y, A, B)"])
+    yield Case(inverted, "A B", steps=vectors("01X", 2), show="y Y")
+    inverted = Module("INVERTED_LATCH", "D E", "QN", ["lat m(q, D, E)", "not(QN, q)"])
+    yield Case(inverted, "D E", states="0", steps=["10", "11", "10", "00", "01", "X1"], show="q QN")
     two = ["not(ckn, CK)", "lat m(mq, D, ckn)", "lat s(Q, mq, CK)"]
     walk = ["01", "00", "01", "11", "10", "11", "01", "0X", "01", "10", "11"]
     yield Case(Module("TWO_LATCHES", "D CK", "Q", two), "D CK", states="11", steps=walk, show="ckn mq Q")

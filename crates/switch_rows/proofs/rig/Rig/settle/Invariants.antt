@@ -1,4 +1,4 @@
-use Rattle.switch_run.proofs.tests.Rig.settle.Given as goal
+use Rattle.switch_rows.proofs.rig.Rig.settle.Given as goal
 
 abbrev pub ghosts-counted : goal.ghosts-counted
 ghosts-counted a = record { name = a.blank.name; parts = a.blank.parts }
