@@ -3,14 +3,14 @@ use Rattle.std.proofs.Common.{◌≡◌, ℕ, zero, suc, List, Ok, Err, sym, sub
 use Rattle.text_scan.specs.declared.limits.Limits.{Limits}
 use Rattle.grammar.specs.Reading.{read}
 use Rattle.verilog_directives.specs.declared.left.Left.{Left}
-use Rattle.verilog_parts.specs.declared.module_text.ModuleText.{ModuleText}
-use Rattle.verilog_parts.specs.declared.udp_text.PrimitiveText.{PrimitiveText}
-use Rattle.verilog_parts.specs.ModuleActions.{no_module}
-use Rattle.verilog_parts.specs.ModuleGrammar.{module_body}
-use Rattle.verilog_parts.specs.UdpActions.{no_udp}
-use Rattle.verilog_parts.specs.UdpGrammar.{udp_body}
-use Rattle.verilog_parts.proofs.ModuleSimple.{module_simple}
-use Rattle.verilog_parts.proofs.UdpSimple.{udp_simple}
+use Rattle.verilog_modules.specs.declared.module_text.ModuleText.{ModuleText}
+use Rattle.verilog_primitives.specs.declared.udp_text.PrimitiveText.{PrimitiveText}
+use Rattle.verilog_modules.specs.ModuleActions.{no_module}
+use Rattle.verilog_modules.specs.ModuleGrammar.{module_body}
+use Rattle.verilog_primitives.specs.UdpActions.{no_udp}
+use Rattle.verilog_primitives.specs.UdpGrammar.{udp_body}
+use Rattle.verilog_modules.proofs.ModuleSimple.{module_simple}
+use Rattle.verilog_primitives.proofs.UdpSimple.{udp_simple}
 use Rattle.verilog_reader.specs.declared.file_text.FileText.{FileText}
 use Rattle.verilog_reader.specs.declared.file_text.Opened.{Opened}
 use Rattle.verilog_reader.specs.declared.file_text.Opened.TheVariants as openings

@@ -15,14 +15,14 @@ use Rattle.verilog_directives.specs.declared.left.Role.TheVariants.{Plain}
 use Rattle.verilog_directives.specs.Left.{item, is_last, followed}
 use Rattle.verilog_directives.specs.Signs.{text as token_text, is_sign}
 use Rattle.verilog_directives.specs.Skims.{begins_end, is_filler_text, is_filler}
-use Rattle.verilog_parts.specs.declared.look.Look.{Look}
-use Rattle.verilog_parts.specs.declared.look.Look.TheVariants as looks
-use Rattle.verilog_parts.specs.declared.module_phase.ModulePhase.{ModulePhase}
-use Rattle.verilog_parts.specs.declared.module_phase.ModulePhase.TheVariants as module_phases
-use Rattle.verilog_parts.specs.declared.module_reader.ModuleReader.{ModuleReader}
-use Rattle.verilog_parts.specs.Looks.{text, look_of, sign_of, word_look, number_look, identifier_look, three_look, four_look, five_look, six_look, seven_look, longer_look, long_look, sign_look, other_look, is_number_byte, is_specified, is_unread}
-use Rattle.verilog_parts.specs.ModuleActions.{perform}
-use Rattle.verilog_parts.specs.ModuleMoves as modules
+use Rattle.verilog_looks.specs.declared.look.Look.{Look}
+use Rattle.verilog_looks.specs.declared.look.Look.TheVariants as looks
+use Rattle.verilog_modules.specs.declared.module_phase.ModulePhase.{ModulePhase}
+use Rattle.verilog_modules.specs.declared.module_phase.ModulePhase.TheVariants as module_phases
+use Rattle.verilog_modules.specs.declared.module_reader.ModuleReader.{ModuleReader}
+use Rattle.verilog_looks.specs.Looks.{text, look_of, sign_of, word_look, number_look, identifier_look, three_look, four_look, five_look, six_look, seven_look, longer_look, long_look, sign_look, other_look, is_number_byte, is_specified, is_unread}
+use Rattle.verilog_modules.specs.ModuleActions.{perform}
+use Rattle.verilog_modules.specs.ModuleMoves as modules
 use Rattle.verilog_reader.specs.declared.file_phase.FilePhase.{FilePhase}
 use Rattle.verilog_reader.specs.declared.file_phase.FilePhase.TheVariants as phases
 use Rattle.verilog_reader.specs.declared.file_reader.FileReader.{FileReader}

@@ -9,7 +9,7 @@ use Rattle.grammar.proofs.Complete.{Begins, complete}
 use Rattle.grammar.proofs.Tells.{Tells, tells}
 use Rattle.grammar.proofs.Stops.{many_turn}
 use Rattle.verilog_directives.specs.declared.left.Left.{Left}
-use Rattle.verilog_parts.specs.declared.halt.Refusal.{Refusal}
+use Rattle.verilog_looks.specs.declared.halt.Refusal.{Refusal}
 use Rattle.verilog_reader.specs.FileGrammar.{anything}
 use Rattle.verilog_reader.specs.File.{First, IsFirst}
 

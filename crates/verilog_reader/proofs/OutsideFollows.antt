@@ -4,11 +4,11 @@ use Rattle.text_scan.specs.declared.limits.Limits.{Limits}
 use Rattle.grammar.specs.Rule.{none, one, before}
 use Rattle.grammar.specs.Reading.{syntax, refusal, acting, ◌>>=◌, read, IsSimple}
 use Rattle.verilog_directives.specs.declared.left.Left.{Left}
-use Rattle.verilog_parts.specs.declared.look.Look.{Look}
-use Rattle.verilog_parts.specs.declared.look.Look.TheVariants as looks
-use Rattle.verilog_parts.specs.Looks.{look_of, is_module, is_primitive, is_end, is_macro, is_passed, is_unread, is_part_end}
-use Rattle.verilog_parts.specs.ModuleGrammar.{is_beside, is_off}
-use Rattle.verilog_parts.proofs.Repeats.{turns, ends}
+use Rattle.verilog_looks.specs.declared.look.Look.{Look}
+use Rattle.verilog_looks.specs.declared.look.Look.TheVariants as looks
+use Rattle.verilog_looks.specs.Looks.{look_of, is_module, is_primitive, is_end, is_macro, is_passed, is_unread, is_part_end}
+use Rattle.verilog_modules.specs.ModuleGrammar.{is_beside, is_off}
+use Rattle.verilog_looks.proofs.Repeats.{turns, ends}
 use Rattle.verilog_reader.specs.declared.file_text.FileText.{FileText}
 use Rattle.verilog_reader.specs.declared.file_phase.FilePhase.{FilePhase}
 use Rattle.verilog_reader.specs.declared.file_phase.FilePhase.TheVariants as phases

@@ -3,36 +3,36 @@ use Rattle.std.proofs.Common.{◌≡◌, ℕ, zero, suc, ◌+◌, ◌≤◌, leb
 use Rattle.text_scan.specs.declared.limits.Limits.{Limits}
 use Rattle.grammar.specs.Reading.{syntax, refusal, acting, read}
 use Rattle.verilog_directives.specs.declared.left.Left.{Left}
-use Rattle.verilog_parts.specs.declared.halt.Refusal.{Refusal}
-use Rattle.verilog_parts.specs.declared.halt.Halt.{Halt}
-use Rattle.verilog_parts.specs.declared.halt.Halt.TheVariants as halts
-use Rattle.verilog_parts.specs.declared.look.Look.{Look}
-use Rattle.verilog_parts.specs.declared.look.Look.TheVariants as looks
-use Rattle.verilog_parts.specs.declared.module_text.ModuleText.{ModuleText}
-use Rattle.verilog_parts.specs.declared.module_phase.ModulePhase.{ModulePhase}
-use Rattle.verilog_parts.specs.declared.module_phase.ModulePhase.TheVariants as module_phases
-use Rattle.verilog_parts.specs.declared.module_phase.ModuleMove.{ModuleMove}
-use Rattle.verilog_parts.specs.declared.module_phase.ModuleMove.TheVariants as module_moves
-use Rattle.verilog_parts.specs.declared.module_reader.ModuleReader.{ModuleReader}
-use Rattle.verilog_parts.specs.declared.udp_text.PrimitiveText.{PrimitiveText}
-use Rattle.verilog_parts.specs.declared.udp_phase.UdpPhase.{UdpPhase}
-use Rattle.verilog_parts.specs.declared.udp_phase.UdpPhase.TheVariants as udp_phases
-use Rattle.verilog_parts.specs.declared.udp_phase.UdpMove.{UdpMove}
-use Rattle.verilog_parts.specs.declared.udp_phase.UdpMove.TheVariants as udp_moves
-use Rattle.verilog_parts.specs.declared.udp_reader.UdpReader.{UdpReader}
-use Rattle.verilog_parts.specs.Looks.{look_of, are_symbols}
-use Rattle.verilog_parts.specs.ModuleActions.{perform}
-use Rattle.verilog_parts.specs.ModuleMoves as modules
-use Rattle.verilog_parts.specs.ModuleMoves.{module_move, at_header, at_ports, at_port, at_port_net, at_port_name, at_port_end, at_header_end, at_items, at_name, at_name_end, at_kind, at_hash, at_delay, at_instance, at_labelled, at_output, after_constant, at_terminal, at_terminal_end, at_last, at_instance_end, at_specify, beside, at_specify_line, closed}
-use Rattle.verilog_parts.specs.ModuleBounds as module_bounds
-use Rattle.verilog_parts.specs.ModuleToCome as modules_to_come
-use Rattle.verilog_parts.specs.UdpActions.{perform_udp}
-use Rattle.verilog_parts.specs.UdpMoves as udps
-use Rattle.verilog_parts.specs.UdpMoves.{udp_move}
-use Rattle.verilog_parts.specs.UdpBounds as udp_bounds
-use Rattle.verilog_parts.specs.UdpToCome as udps_to_come
-use Rattle.verilog_parts.proofs.ModuleFollows as module_follows
-use Rattle.verilog_parts.proofs.UdpFollows as udp_follows
+use Rattle.verilog_looks.specs.declared.halt.Refusal.{Refusal}
+use Rattle.verilog_looks.specs.declared.halt.Halt.{Halt}
+use Rattle.verilog_looks.specs.declared.halt.Halt.TheVariants as halts
+use Rattle.verilog_looks.specs.declared.look.Look.{Look}
+use Rattle.verilog_looks.specs.declared.look.Look.TheVariants as looks
+use Rattle.verilog_modules.specs.declared.module_text.ModuleText.{ModuleText}
+use Rattle.verilog_modules.specs.declared.module_phase.ModulePhase.{ModulePhase}
+use Rattle.verilog_modules.specs.declared.module_phase.ModulePhase.TheVariants as module_phases
+use Rattle.verilog_modules.specs.declared.module_phase.ModuleMove.{ModuleMove}
+use Rattle.verilog_modules.specs.declared.module_phase.ModuleMove.TheVariants as module_moves
+use Rattle.verilog_modules.specs.declared.module_reader.ModuleReader.{ModuleReader}
+use Rattle.verilog_primitives.specs.declared.udp_text.PrimitiveText.{PrimitiveText}
+use Rattle.verilog_primitives.specs.declared.udp_phase.UdpPhase.{UdpPhase}
+use Rattle.verilog_primitives.specs.declared.udp_phase.UdpPhase.TheVariants as udp_phases
+use Rattle.verilog_primitives.specs.declared.udp_phase.UdpMove.{UdpMove}
+use Rattle.verilog_primitives.specs.declared.udp_phase.UdpMove.TheVariants as udp_moves
+use Rattle.verilog_primitives.specs.declared.udp_reader.UdpReader.{UdpReader}
+use Rattle.verilog_looks.specs.Looks.{look_of, are_symbols}
+use Rattle.verilog_modules.specs.ModuleActions.{perform}
+use Rattle.verilog_modules.specs.ModuleMoves as modules
+use Rattle.verilog_modules.specs.ModuleMoves.{module_move, at_header, at_ports, at_port, at_port_net, at_port_name, at_port_end, at_header_end, at_items, at_name, at_name_end, at_kind, at_hash, at_delay, at_instance, at_labelled, at_output, after_constant, at_terminal, at_terminal_end, at_last, at_instance_end, at_specify, beside, at_specify_line, closed}
+use Rattle.verilog_modules.specs.ModuleBounds as module_bounds
+use Rattle.verilog_modules.specs.ModuleToCome as modules_to_come
+use Rattle.verilog_primitives.specs.UdpActions.{perform_udp}
+use Rattle.verilog_primitives.specs.UdpMoves as udps
+use Rattle.verilog_primitives.specs.UdpMoves.{udp_move}
+use Rattle.verilog_primitives.specs.UdpBounds as udp_bounds
+use Rattle.verilog_primitives.specs.UdpToCome as udps_to_come
+use Rattle.verilog_modules.proofs.ModuleFollows as module_follows
+use Rattle.verilog_primitives.proofs.UdpFollows as udp_follows
 use Rattle.verilog_reader.specs.Bounds.{Sits}
 
 -- ---- parentheses

@@ -5,31 +5,31 @@ use Rattle.text_scan.specs.declared.limits.LimitKind.TheVariants as limit_kinds
 use Rattle.grammar.specs.Reading.{syntax, refusal, acting, read}
 use Rattle.name_index.specs.Places.{is_known}
 use Rattle.verilog_directives.specs.declared.left.Left.{Left}
-use Rattle.verilog_parts.specs.declared.halt.Refusal.{Refusal}
-use Rattle.verilog_parts.specs.declared.halt.Refusal.TheVariants as refusals
-use Rattle.verilog_parts.specs.declared.halt.Halt.{Halt}
-use Rattle.verilog_parts.specs.declared.halt.Halt.TheVariants as halts
-use Rattle.verilog_parts.specs.declared.look.Look.{Look}
-use Rattle.verilog_parts.specs.declared.look.Look.TheVariants as looks
-use Rattle.verilog_parts.specs.declared.module_phase.ModulePhase.{ModulePhase}
-use Rattle.verilog_parts.specs.declared.module_phase.ModulePhase.TheVariants as module_phases
-use Rattle.verilog_parts.specs.declared.module_reader.ModuleReader.{ModuleReader}
-use Rattle.verilog_parts.specs.declared.udp_phase.UdpPhase.{UdpPhase}
-use Rattle.verilog_parts.specs.declared.udp_phase.UdpPhase.TheVariants as udp_phases
-use Rattle.verilog_parts.specs.declared.udp_reader.UdpReader.{UdpReader}
-use Rattle.verilog_parts.specs.Looks.{look_of, is_passed}
-use Rattle.verilog_parts.specs.Names.{content, word_of}
+use Rattle.verilog_looks.specs.declared.halt.Refusal.{Refusal}
+use Rattle.verilog_looks.specs.declared.halt.Refusal.TheVariants as refusals
+use Rattle.verilog_looks.specs.declared.halt.Halt.{Halt}
+use Rattle.verilog_looks.specs.declared.halt.Halt.TheVariants as halts
+use Rattle.verilog_looks.specs.declared.look.Look.{Look}
+use Rattle.verilog_looks.specs.declared.look.Look.TheVariants as looks
+use Rattle.verilog_modules.specs.declared.module_phase.ModulePhase.{ModulePhase}
+use Rattle.verilog_modules.specs.declared.module_phase.ModulePhase.TheVariants as module_phases
+use Rattle.verilog_modules.specs.declared.module_reader.ModuleReader.{ModuleReader}
+use Rattle.verilog_primitives.specs.declared.udp_phase.UdpPhase.{UdpPhase}
+use Rattle.verilog_primitives.specs.declared.udp_phase.UdpPhase.TheVariants as udp_phases
+use Rattle.verilog_primitives.specs.declared.udp_reader.UdpReader.{UdpReader}
+use Rattle.verilog_looks.specs.Looks.{look_of, is_passed}
+use Rattle.verilog_looks.specs.Names.{content, word_of}
 use Rattle.file_rules.specs.Names.{is_name, is_too_long}
-use Rattle.verilog_parts.specs.ModuleActions.{no_module}
-use Rattle.verilog_parts.specs.ModuleGrammar.{module_body, is_beside, is_off}
-use Rattle.verilog_parts.specs.ModuleMoves as modules
-use Rattle.verilog_parts.specs.ModuleToCome as modules_to_come
-use Rattle.verilog_parts.specs.UdpActions.{no_udp}
-use Rattle.verilog_parts.specs.UdpGrammar.{udp_body}
-use Rattle.verilog_parts.specs.UdpMoves as udps
-use Rattle.verilog_parts.specs.UdpToCome as udps_to_come
-use Rattle.verilog_parts.proofs.ModuleSimple.{module_simple}
-use Rattle.verilog_parts.proofs.UdpSimple.{udp_simple}
+use Rattle.verilog_modules.specs.ModuleActions.{no_module}
+use Rattle.verilog_modules.specs.ModuleGrammar.{module_body, is_beside, is_off}
+use Rattle.verilog_modules.specs.ModuleMoves as modules
+use Rattle.verilog_modules.specs.ModuleToCome as modules_to_come
+use Rattle.verilog_primitives.specs.UdpActions.{no_udp}
+use Rattle.verilog_primitives.specs.UdpGrammar.{udp_body}
+use Rattle.verilog_primitives.specs.UdpMoves as udps
+use Rattle.verilog_primitives.specs.UdpToCome as udps_to_come
+use Rattle.verilog_modules.proofs.ModuleSimple.{module_simple}
+use Rattle.verilog_primitives.proofs.UdpSimple.{udp_simple}
 use Rattle.verilog_reader.specs.declared.file_text.FileText.{FileText}
 use Rattle.verilog_reader.specs.declared.file_text.Opened.{Opened}
 use Rattle.verilog_reader.specs.declared.file_text.Opened.TheVariants as openings

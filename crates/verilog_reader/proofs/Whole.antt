@@ -12,32 +12,32 @@ use Rattle.verilog_directives.specs.declared.left.Left.{Left}
 use Rattle.verilog_directives.specs.declared.left.Role.{Role}
 use Rattle.verilog_directives.specs.declared.left.Role.TheVariants as roles
 use Rattle.verilog_directives.specs.Left.{is_last, is_last_role, followed, left_of}
-use Rattle.verilog_parts.specs.declared.halt.Refusal.{Refusal}
-use Rattle.verilog_parts.specs.declared.halt.Refusal.TheVariants as refusals
-use Rattle.verilog_parts.specs.declared.halt.Halt.{Halt}
-use Rattle.verilog_parts.specs.declared.halt.Halt.TheVariants as halts
-use Rattle.verilog_parts.specs.declared.look.Look.{Look}
-use Rattle.verilog_parts.specs.declared.look.Look.TheVariants as looks
-use Rattle.verilog_parts.specs.declared.module_phase.ModulePhase.{ModulePhase}
-use Rattle.verilog_parts.specs.declared.module_phase.ModulePhase.TheVariants as module_phases
-use Rattle.verilog_parts.specs.declared.module_phase.ModuleMove.TheVariants as module_moves
-use Rattle.verilog_parts.specs.declared.module_text.ModuleText.{ModuleText}
-use Rattle.verilog_parts.specs.declared.udp_text.PrimitiveText.{PrimitiveText}
-use Rattle.verilog_parts.specs.declared.module_reader.ModuleReader.{ModuleReader}
-use Rattle.verilog_parts.specs.declared.udp_phase.UdpPhase.{UdpPhase}
-use Rattle.verilog_parts.specs.declared.udp_phase.UdpPhase.TheVariants as udp_phases
-use Rattle.verilog_parts.specs.declared.udp_phase.UdpMove.TheVariants as udp_moves
-use Rattle.verilog_parts.specs.declared.udp_reader.UdpReader.{UdpReader}
-use Rattle.verilog_parts.specs.Looks.{look_of, is_passed, are_symbols}
-use Rattle.verilog_parts.specs.Names.{word_of}
-use Rattle.verilog_parts.specs.ModuleMoves as modules
-use Rattle.verilog_parts.specs.ModuleGrammar.{ModuleRule, port_name, net_port, port, further_ports, declared_name, further_names, names_end, names, closing, parentheses, between, delay_value, delay, terminal, further_terminals, terminals_end, terminals, connections, instance, further_instances, instances_end, instances, delayed, beside_line, specified, specify_end, item, module_end, items, header_end, ports_end, listed, ports, module_body}
-use Rattle.verilog_parts.specs.UdpGrammar.{udp_port_name, output_port, udp_port, further_udp_ports, udp_name, further_udp_names, udp_names_end, udp_names, symbols, row_end, row, udp_end, table_end, rows, table, stated, statement_end, statement, after_declarations, declarations, udp_header_end, udp_ports_end, udp_ports, udp_body}
+use Rattle.verilog_looks.specs.declared.halt.Refusal.{Refusal}
+use Rattle.verilog_looks.specs.declared.halt.Refusal.TheVariants as refusals
+use Rattle.verilog_looks.specs.declared.halt.Halt.{Halt}
+use Rattle.verilog_looks.specs.declared.halt.Halt.TheVariants as halts
+use Rattle.verilog_looks.specs.declared.look.Look.{Look}
+use Rattle.verilog_looks.specs.declared.look.Look.TheVariants as looks
+use Rattle.verilog_modules.specs.declared.module_phase.ModulePhase.{ModulePhase}
+use Rattle.verilog_modules.specs.declared.module_phase.ModulePhase.TheVariants as module_phases
+use Rattle.verilog_modules.specs.declared.module_phase.ModuleMove.TheVariants as module_moves
+use Rattle.verilog_modules.specs.declared.module_text.ModuleText.{ModuleText}
+use Rattle.verilog_primitives.specs.declared.udp_text.PrimitiveText.{PrimitiveText}
+use Rattle.verilog_modules.specs.declared.module_reader.ModuleReader.{ModuleReader}
+use Rattle.verilog_primitives.specs.declared.udp_phase.UdpPhase.{UdpPhase}
+use Rattle.verilog_primitives.specs.declared.udp_phase.UdpPhase.TheVariants as udp_phases
+use Rattle.verilog_primitives.specs.declared.udp_phase.UdpMove.TheVariants as udp_moves
+use Rattle.verilog_primitives.specs.declared.udp_reader.UdpReader.{UdpReader}
+use Rattle.verilog_looks.specs.Looks.{look_of, is_passed, are_symbols}
+use Rattle.verilog_looks.specs.Names.{word_of}
+use Rattle.verilog_modules.specs.ModuleMoves as modules
+use Rattle.verilog_modules.specs.ModuleGrammar.{ModuleRule, port_name, net_port, port, further_ports, declared_name, further_names, names_end, names, closing, parentheses, between, delay_value, delay, terminal, further_terminals, terminals_end, terminals, connections, instance, further_instances, instances_end, instances, delayed, beside_line, specified, specify_end, item, module_end, items, header_end, ports_end, listed, ports, module_body}
+use Rattle.verilog_primitives.specs.UdpGrammar.{udp_port_name, output_port, udp_port, further_udp_ports, udp_name, further_udp_names, udp_names_end, udp_names, symbols, row_end, row, udp_end, table_end, rows, table, stated, statement_end, statement, after_declarations, declarations, udp_header_end, udp_ports_end, udp_ports, udp_body}
 use Rattle.verilog_reader.specs.FileGrammar.{line_rest, passed_line, module_name, primitive_name, outside, unread, part_rest}
-use Rattle.verilog_parts.specs.ModuleToCome as modules_to_come
-use Rattle.verilog_parts.specs.UdpToCome as udps_to_come
-use Rattle.verilog_parts.specs.ModuleBounds.{IsBounded}
-use Rattle.verilog_parts.specs.UdpMoves as udps
+use Rattle.verilog_modules.specs.ModuleToCome as modules_to_come
+use Rattle.verilog_primitives.specs.UdpToCome as udps_to_come
+use Rattle.verilog_modules.specs.ModuleBounds.{IsBounded}
+use Rattle.verilog_primitives.specs.UdpMoves as udps
 use Rattle.verilog_reader.specs.declared.file_text.FileText.{FileText}
 use Rattle.verilog_reader.specs.declared.file_phase.FilePhase.{FilePhase}
 use Rattle.verilog_reader.specs.declared.file_phase.FilePhase.TheVariants as phases

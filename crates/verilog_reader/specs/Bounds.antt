@@ -1,9 +1,9 @@
 -- Where a reader of a file may stand, and before how many items.
 use Rattle.std.specs.Prelude.{◌≡◌, ℕ, ◌≤◌, ◌+◌, false}
-use Rattle.verilog_parts.specs.declared.module_phase.ModulePhase.{ModulePhase}
-use Rattle.verilog_parts.specs.declared.module_phase.ModulePhase.TheVariants as module_phases
-use Rattle.verilog_parts.specs.ModuleMoves as modules
-use Rattle.verilog_parts.specs.UdpMoves as udps
+use Rattle.verilog_modules.specs.declared.module_phase.ModulePhase.{ModulePhase}
+use Rattle.verilog_modules.specs.declared.module_phase.ModulePhase.TheVariants as module_phases
+use Rattle.verilog_modules.specs.ModuleMoves as modules
+use Rattle.verilog_primitives.specs.UdpMoves as udps
 use Rattle.verilog_reader.specs.declared.file_text.Opened.TheVariants as openings
 use Rattle.verilog_reader.specs.declared.file_phase.FilePhase.{FilePhase}
 use Rattle.verilog_reader.specs.declared.file_phase.FilePhase.TheVariants as phases

@@ -7,16 +7,16 @@ use Rattle.grammar.specs.Reading.{Stop, syntax, refusal}
 use Rattle.grammar.specs.Answers.{IsAnswer}
 use Rattle.verilog_directives.specs.declared.left.Left.{Left}
 use Rattle.verilog_directives.specs.Left.{left_of}
-use Rattle.verilog_parts.specs.declared.halt.Refusal.{Refusal}
-use Rattle.verilog_parts.specs.declared.halt.Refusal.TheVariants as refusals
-use Rattle.verilog_parts.specs.declared.module_text.ModuleText.{ModuleText}
-use Rattle.verilog_parts.specs.declared.udp_text.PrimitiveText.{PrimitiveText}
-use Rattle.verilog_parts.specs.Looks.{look_of, is_passed}
-use Rattle.verilog_parts.specs.Names.{word_of}
-use Rattle.verilog_parts.specs.ModuleActions.{no_module}
-use Rattle.verilog_parts.specs.ModuleGrammar.{module_body}
-use Rattle.verilog_parts.specs.UdpActions.{no_udp}
-use Rattle.verilog_parts.specs.UdpGrammar.{udp_body}
+use Rattle.verilog_looks.specs.declared.halt.Refusal.{Refusal}
+use Rattle.verilog_looks.specs.declared.halt.Refusal.TheVariants as refusals
+use Rattle.verilog_modules.specs.declared.module_text.ModuleText.{ModuleText}
+use Rattle.verilog_primitives.specs.declared.udp_text.PrimitiveText.{PrimitiveText}
+use Rattle.verilog_looks.specs.Looks.{look_of, is_passed}
+use Rattle.verilog_looks.specs.Names.{word_of}
+use Rattle.verilog_modules.specs.ModuleActions.{no_module}
+use Rattle.verilog_modules.specs.ModuleGrammar.{module_body}
+use Rattle.verilog_primitives.specs.UdpActions.{no_udp}
+use Rattle.verilog_primitives.specs.UdpGrammar.{udp_body}
 use Rattle.verilog_reader.specs.declared.file_text.FileText.{FileText}
 use Rattle.verilog_reader.specs.declared.file_text.Opened.{Opened}
 use Rattle.verilog_reader.specs.declared.file_text.Opened.TheVariants as openings

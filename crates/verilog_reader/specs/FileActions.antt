@@ -8,11 +8,11 @@ use Rattle.verilog_source.specs.declared.module.Module.{Module}
 use Rattle.verilog_source.specs.declared.module.ModulePart.TheVariants as module_parts
 use Rattle.verilog_source.specs.declared.primitive.UdpText.{UdpText}
 use Rattle.verilog_source.specs.declared.primitive.UdpPart.TheVariants as udp_parts
-use Rattle.verilog_parts.specs.declared.halt.Refusal.{Refusal}
-use Rattle.verilog_parts.specs.declared.halt.Refusal.TheVariants as refusals
-use Rattle.verilog_parts.specs.declared.module_text.ModuleText.{ModuleText}
-use Rattle.verilog_parts.specs.declared.udp_text.PrimitiveText.{PrimitiveText}
-use Rattle.verilog_parts.specs.Names.{content}
+use Rattle.verilog_looks.specs.declared.halt.Refusal.{Refusal}
+use Rattle.verilog_looks.specs.declared.halt.Refusal.TheVariants as refusals
+use Rattle.verilog_modules.specs.declared.module_text.ModuleText.{ModuleText}
+use Rattle.verilog_primitives.specs.declared.udp_text.PrimitiveText.{PrimitiveText}
+use Rattle.verilog_looks.specs.Names.{content}
 use Rattle.file_rules.specs.Names.{is_name, is_too_long}
 use Rattle.verilog_reader.specs.declared.file_text.Opened.{Opened}
 use Rattle.verilog_reader.specs.declared.file_text.Opened.TheVariants as openings

@@ -3,11 +3,11 @@ use Rattle.std.specs.Prelude.{ℕ, Bool, true, List, Ok}
 use Rattle.text_scan.specs.declared.limits.Limits.{Limits}
 use Rattle.grammar.specs.Rule.{Rule, none, one, before, seq, alt, many}
 use Rattle.verilog_directives.specs.declared.left.Left.{Left}
-use Rattle.verilog_parts.specs.declared.halt.Refusal.{Refusal}
-use Rattle.verilog_parts.specs.declared.look.Look.{Look}
-use Rattle.verilog_parts.specs.Looks as looks
-use Rattle.verilog_parts.specs.Looks.{look_of}
-use Rattle.verilog_parts.specs.ModuleGrammar.{is_beside, is_off}
+use Rattle.verilog_looks.specs.declared.halt.Refusal.{Refusal}
+use Rattle.verilog_looks.specs.declared.look.Look.{Look}
+use Rattle.verilog_looks.specs.Looks as looks
+use Rattle.verilog_looks.specs.Looks.{look_of}
+use Rattle.verilog_modules.specs.ModuleGrammar.{is_beside, is_off}
 use Rattle.verilog_reader.specs.declared.file_text.FileText.{FileText}
 use Rattle.verilog_reader.specs.declared.file_phase.FileAction.{FileAction}
 use Rattle.verilog_reader.specs.declared.file_phase.FileAction.TheVariants.{Keep, BeginLine, CountModule, CountPrimitive, NameModule, NamePrimitive, End}

@@ -3,18 +3,18 @@ use Rattle.std.specs.Prelude.{ℕ, Bool, true, false, ◌==◌, if◌then◌else
 use Rattle.text_scan.specs.declared.limits.Limits.{Limits}
 use Rattle.text_scan.specs.declared.refusal.FileRefusal.{FileRefusal}
 use Rattle.verilog_directives.specs.declared.left.Left.{Left}
-use Rattle.verilog_parts.specs.declared.halt.Halt.{Halt}
-use Rattle.verilog_parts.specs.declared.halt.Halt.TheVariants as halts
-use Rattle.verilog_parts.specs.declared.halt.Refusal.{Refusal}
-use Rattle.verilog_parts.specs.declared.halt.Refusal.TheVariants as refusals
-use Rattle.verilog_parts.specs.declared.look.Look.{Look}
-use Rattle.verilog_parts.specs.declared.look.Look.TheVariants as looks
-use Rattle.verilog_parts.specs.declared.module_reader.ModuleReader.{ModuleReader}
-use Rattle.verilog_parts.specs.declared.udp_reader.UdpReader.{UdpReader}
-use Rattle.verilog_parts.specs.Looks.{look_of, is_passed}
-use Rattle.verilog_parts.specs.Names.{word_of}
-use Rattle.verilog_parts.specs.ModuleMoves as modules
-use Rattle.verilog_parts.specs.UdpMoves as udps
+use Rattle.verilog_looks.specs.declared.halt.Halt.{Halt}
+use Rattle.verilog_looks.specs.declared.halt.Halt.TheVariants as halts
+use Rattle.verilog_looks.specs.declared.halt.Refusal.{Refusal}
+use Rattle.verilog_looks.specs.declared.halt.Refusal.TheVariants as refusals
+use Rattle.verilog_looks.specs.declared.look.Look.{Look}
+use Rattle.verilog_looks.specs.declared.look.Look.TheVariants as looks
+use Rattle.verilog_modules.specs.declared.module_reader.ModuleReader.{ModuleReader}
+use Rattle.verilog_primitives.specs.declared.udp_reader.UdpReader.{UdpReader}
+use Rattle.verilog_looks.specs.Looks.{look_of, is_passed}
+use Rattle.verilog_looks.specs.Names.{word_of}
+use Rattle.verilog_modules.specs.ModuleMoves as modules
+use Rattle.verilog_primitives.specs.UdpMoves as udps
 use Rattle.verilog_reader.specs.declared.file_text.FileText.{FileText}
 use Rattle.verilog_reader.specs.declared.file_phase.FilePhase.{FilePhase}
 use Rattle.verilog_reader.specs.declared.file_phase.FilePhase.TheVariants as phases

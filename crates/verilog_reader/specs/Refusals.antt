@@ -10,9 +10,9 @@ use Rattle.grammar.specs.Reading.{Stop, syntax, refusal}
 use Rattle.verilog_directives.specs.declared.left.Left.{Left}
 use Rattle.verilog_directives.specs.declared.left.Role.{Role}
 use Rattle.verilog_directives.specs.declared.left.Role.TheVariants as roles
-use Rattle.verilog_parts.specs.declared.halt.Refusal.{Refusal}
-use Rattle.verilog_parts.specs.declared.halt.Refusal.TheVariants as refusals
-use Rattle.verilog_parts.specs.Names.{content}
+use Rattle.verilog_looks.specs.declared.halt.Refusal.{Refusal}
+use Rattle.verilog_looks.specs.declared.halt.Refusal.TheVariants as refusals
+use Rattle.verilog_looks.specs.Names.{content}
 
 abbrev pub limit_of : Limits → LimitKind → ℕ
 limit_of limits limit_kinds.Name = limits.name

@@ -6,8 +6,8 @@ use Rattle.verilog_directives.specs.declared.left.Left.{Left}
 use Rattle.verilog_directives.specs.declared.left.Role.TheVariants.{Plain}
 use Rattle.verilog_directives.specs.Left.{item}
 use Rattle.verilog_directives.specs.Skims.{is_filler}
-use Rattle.verilog_parts.specs.declared.module_phase.ModulePhase.{ModulePhase}
-use Rattle.verilog_parts.specs.declared.module_phase.ModulePhase.TheVariants as module_phases
+use Rattle.verilog_modules.specs.declared.module_phase.ModulePhase.{ModulePhase}
+use Rattle.verilog_modules.specs.declared.module_phase.ModulePhase.TheVariants as module_phases
 use Rattle.verilog_reader.specs.declared.file_phase.FilePhase.{FilePhase}
 use Rattle.verilog_reader.specs.declared.file_phase.FilePhase.TheVariants as phases
 use Rattle.verilog_reader.specs.declared.file_reader.FileReader.{FileReader}

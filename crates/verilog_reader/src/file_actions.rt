@@ -1,7 +1,7 @@
 //! What the items outside parts leave.
 ghost use Rattle.std.specs.Prelude.{◌≡◌, ◌++◌, ◌∷◌, [], length, IfOk, OnOk};
 ghost use Rattle.verilog_reader.specs.FileActions as spec;
-ghost use Rattle.verilog_parts.specs.Does.{Does};
+ghost use Rattle.verilog_looks.specs.Does.{Does};
 
 use crate::file_phase::FileAction;
 use crate::file_text::{FileText, Opened};
@@ -10,7 +10,7 @@ use name_index::Names;
 use std::alloc::Global;
 use text_scan::{Items, LimitKind, Limits, Text};
 use verilog_directives::Left;
-use verilog_parts::{Halt, Refusal, content};
+use verilog_looks::{Halt, Refusal, content};
 
 impl FileText {
     pub fn new(alloc: Global) -> FileText

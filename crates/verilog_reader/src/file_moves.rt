@@ -3,7 +3,7 @@ ghost use Rattle.std.specs.Prelude.{◌≡◌, ◌==◌};
 ghost use Rattle.verilog_reader.specs.FileSteps as spec;
 
 use crate::file_phase::{FileAction, FileMove, FilePhase};
-use verilog_parts::Look;
+use verilog_looks::Look;
 
 fn at_top(line: u32, look: Look) -> FileMove
     ensures { result ≡ spec.at_top line look }

@@ -1,7 +1,8 @@
 //! Reads a file, an item at a time.
 use crate::file_phase::FilePhase;
 use crate::file_text::FileText;
-use verilog_parts::{ModuleReader, UdpReader};
+use verilog_modules::ModuleReader;
+use verilog_primitives::UdpReader;
 
 /// What was read last of a file, and what is kept of it and of the part that is read.
 #[derive(Drop)]

@@ -1,13 +1,13 @@
 //! What an item changes in a reader of a file.
 ghost use Rattle.std.specs.Prelude.{◌≡◌};
-ghost use Rattle.verilog_parts.specs.ModuleBounds.{IsBounded};
-ghost use Rattle.verilog_parts.specs.ModuleMoves as modules;
-ghost use Rattle.verilog_parts.specs.UdpMoves as udps;
-ghost use Rattle.verilog_parts.specs.Looks as looks;
+ghost use Rattle.verilog_modules.specs.ModuleBounds.{IsBounded};
+ghost use Rattle.verilog_modules.specs.ModuleMoves as modules;
+ghost use Rattle.verilog_primitives.specs.UdpMoves as udps;
+ghost use Rattle.verilog_looks.specs.Looks as looks;
 ghost use Rattle.verilog_reader.specs.FileSteps as spec;
 ghost use Rattle.file_rules.specs.Told.{Steps};
 ghost use Rattle.verilog_reader.specs.declared.file_phase.FileMove.TheVariants as file_moves;
-ghost use Rattle.verilog_parts.specs.declared.halt.Refusal.TheVariants as part_refusals;
+ghost use Rattle.verilog_looks.specs.declared.halt.Refusal.TheVariants as part_refusals;
 
 use crate::file_moves::file_move;
 use crate::file_phase::{FileAction, FileMove, FilePhase};
@@ -18,7 +18,9 @@ use std::alloc::Global;
 use std::mem;
 use text_scan::{FileRefusal, Limits, Text};
 use verilog_directives::Left;
-use verilog_parts::{Halt, Look, ModuleReader, Refusal, UdpReader, look_of, word_of};
+use verilog_looks::{Halt, Look, Refusal, look_of, word_of};
+use verilog_modules::ModuleReader;
+use verilog_primitives::UdpReader;
 
 fn is_passed(look: Look) -> bool
     ensures { result ≡ looks.is_passed look }

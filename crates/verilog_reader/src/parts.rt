@@ -7,7 +7,8 @@ use name_index::Names;
 use std::alloc::Global;
 use std::mem;
 use text_scan::{NoMemory, Text};
-use verilog_parts::{ModuleText, PrimitiveText};
+use verilog_modules::ModuleText;
+use verilog_primitives::PrimitiveText;
 use verilog_source::{Module, ModulePart, UdpPart, UdpText};
 
 fn module_of(name: Text, text: ModuleText) -> Module

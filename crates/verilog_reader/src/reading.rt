@@ -10,7 +10,7 @@ use crate::file_text::FileText;
 use std::alloc::Global;
 use text_scan::{FileRefusal, Limits};
 use verilog_directives::Directives;
-use verilog_parts::ModulePhase;
+use verilog_modules::ModulePhase;
 
 impl FileReader {
     fn into_text(self) -> FileText

@@ -6,7 +6,7 @@ ghost use Rattle.file_rules.specs.Told.{Tells};
 use std::alloc::Global;
 use text_scan::{FileRefusal, LimitKind, Limits, Text, Token};
 use verilog_directives::{Left, Role};
-use verilog_parts::{Refusal, content};
+use verilog_looks::{Refusal, content};
 
 fn limit_of(limits: &Limits, kind: LimitKind) -> u32
     ensures { result ≡ spec.limit_of limits.now kind }

@@ -1,0 +1,2 @@
+pub mod UdpSimple
+pub mod UdpFollows

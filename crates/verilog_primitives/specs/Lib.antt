@@ -1,0 +1,5 @@
+pub mod UdpActions
+pub mod UdpGrammar
+pub mod UdpMoves
+pub mod UdpToCome
+pub mod UdpBounds
