@@ -51,6 +51,7 @@ impl Ports {
     #[tactic(auto, using(crate::proofs::PortLists::one_more_name))]
     pub fn push(&mut self, alloc: Global, name: &[u8], direction: Direction) -> Result<(), NoMemory>
         ensures ok { OnOk result (self.new ≡ self.old ++ record { name = name.now; direction = direction } ∷ []) }
+        ensures err { OnErr result (self.new ≡ self.old) }
     {
         let text = Text::from_bytes(alloc, name)?;
         self.ports.try_reserve(1)?;
