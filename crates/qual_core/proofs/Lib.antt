@@ -3,3 +3,4 @@ pub mod Places
 pub mod Reading
 pub mod Replying
 pub mod Ends
+pub mod OneOutcome
