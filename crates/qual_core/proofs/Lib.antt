@@ -4,3 +4,4 @@ pub mod Reading
 pub mod Replying
 pub mod Ends
 pub mod OneOutcome
+pub mod Judging
