@@ -4,3 +4,9 @@ pub mod Stepping
 pub mod Making
 pub mod Pinning
 pub mod Equal
+pub mod Cuts
+pub mod OneReason
+pub mod OneTable
+pub mod OneNetwork
+pub mod OneFindings
+pub mod OneComparison

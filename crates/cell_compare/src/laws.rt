@@ -1,4 +1,5 @@
-//! What a comparison says of a cell. The function's contract is the law; it does nothing.
+//! Laws of comparisons. Each function's contract is the law; it does nothing.
+ghost use Rattle.std.specs.Prelude.{◌≡◌};
 ghost use Rattle.liberty_source.specs.declared.CellPart.{CellPart};
 ghost use Rattle.verilog_source.specs.declared.Source.{Source};
 ghost use Rattle.cell_compare.specs.declared.comparison.Comparison.{Comparison};
@@ -9,4 +10,10 @@ ghost use Rattle.cell_compare.specs.Equal.{SaysEqual, IsEqualPart};
 /// network, and at every vector of input values each output that Liberty defines has its value in the settled network.
 pub fn equal_means_equal()
     ensures { (part : CellPart) (source : Source) (c : Comparison) → IsComparison part source c → SaysEqual c → IsEqualPart part source }
+{}
+
+/// A cell has one comparison with a source text: the findings, the refusal with its reason, or the numbers of vectors and
+/// of defined values and the first that differs are determined by both.
+pub fn comparisons_are_one()
+    ensures { (part : CellPart) (source : Source) (c d : Comparison) → IsComparison part source c → IsComparison part source d → c ≡ d }
 {}

@@ -2,7 +2,7 @@
 use Rattle.std.proofs.Common.{◌≡◌, ◌≤◌, inl, ℕ, List, ◌++◌, Option, Some, None, IsSome, refl, sym, ◌∙◌, ap, subst, rules}
 use Rattle.qual_core.specs.Command.{command_of}
 use Rattle.qual_core.specs.Outcome.{usage, refused, IsReplyTo, IsOutcome}
-use Rattle.qual_core.specs.Top.{Blames, IsVerdict, IsDoneOrFaulty, IsUsageOrVerdict, IsAnswer, IsRefusal, UsageExactly, AnswersExactly, Writes, WritesTruly, IsAnswerTo}
+use Rattle.qual_core.specs.Top.{IsOnly, Blames, IsVerdict, IsDoneOrFaulty, IsUsageOrVerdict, IsAnswer, IsRefusal, UsageExactly, AnswersExactly, Writes, WritesTruly, IsAnswerTo}
 use Rattle.qual_core.specs.declared.command.Command.{Command}
 use Rattle.qual_core.specs.declared.reply.Reply.{Reply}
 use Rattle.qual_core.specs.declared.reply.Status.{Status}
@@ -44,7 +44,7 @@ usage_text None reply h e = ap (λ (r : Reply). r.text) h
 usage_text (Some c) reply h e = absurd (verdict_is_no_usage reply.status h e)
 
 -- the whole text was written
-pub writes_whole : (status : Status) (outcome : Reply → Type 0) (old new : List ℕ) (reply : Reply) → IsAnswer status → outcome reply → reply.status ≡ status → new ≡ old ++ reply.text → Writes status outcome old new
+pub writes_whole : (status : Status) (outcome : Reply → Type 0) (old new : List ℕ) (reply : Reply) → IsAnswer status → IsOnly outcome reply → reply.status ≡ status → new ≡ old ++ reply.text → Writes status outcome old new
 writes_whole Done outcome old new reply h o e w = (reply, o, e, w)
 writes_whole Faulty outcome old new reply h o e w = (reply, o, e, w)
 writes_whole Usage outcome old new reply h o e w = (reply, o, e, w)
@@ -76,7 +76,8 @@ refusal_of words file reply o e =
 pub answers_exactly : (words : List (List ℕ)) (file : List ℕ → Option (List ℕ)) (reply : Reply) (no_fault : Type 0) → IsAnswer reply.status → IsAnswerTo words file reply → AnswersExactly reply.status words file no_fault
 answers_exactly words file reply no_fault h a = record {
   only = λ _. (reply, a.outcome, refl);
-  comes = λ other o nf. inl h;
-  refused_only = λ e. (reply.text, refusal_of words file reply a.outcome e);
+  each = λ _ other o. ap (λ (r : Reply). r.status) (a.outcome.only other o);
+  comes = λ other o nf. inl (ap (λ (r : Reply). r.status) (sym (a.outcome.only other o)));
+  refused_only = λ e. (reply.text, refusal_of words file reply a.outcome.is e);
   refused_comes = λ line r nf. inl (a.refused_exactly line r);
 }

@@ -3,3 +3,5 @@ pub mod Places
 pub mod Reading
 pub mod Replying
 pub mod Ends
+pub mod OneOutcome
+pub mod Judging

@@ -9,7 +9,7 @@ use Rattle.compare_text.specs.Blocks.{SaysEqualTruly}
 use Rattle.qual_core.specs.Files.{IsLibraryRead, IsSourceRead}
 use Rattle.qual_core.specs.Command.{command_of, name_beside}
 use Rattle.qual_core.specs.Outcome.{usage, refused, totals_status, report_reply, IsCompared, IsSecondReply, verilog_refused, compared, IsFirstReply, liberty_refused, liberty_read, IsCompareReply, IsReplyOf, IsReplyTo, IsOutcome}
-use Rattle.qual_core.specs.Top.{IsLibraryOf, IsSourceOf, IsRefusal, AreBothRead, AreAccepted, IsDoneOrFaulty, SpeaksTruly, IsCompareAnswer, IsAnswerTo}
+use Rattle.qual_core.specs.Top.{IsOnly, IsLibraryOf, IsSourceOf, IsRefusal, AreBothRead, AreAccepted, IsDoneOrFaulty, SpeaksTruly, IsCompareAnswer, IsAnswerTo}
 use Rattle.qual_core.specs.declared.command.Command.{Command}
 use Rattle.qual_core.specs.declared.command.CommandName.{CommandName}
 use Rattle.qual_core.specs.declared.command.CommandName.TheVariants.{Compare}
@@ -18,6 +18,7 @@ use Rattle.qual_core.specs.declared.files.Failure.{Failure}
 use Rattle.qual_core.specs.declared.reply.Reply.{Reply}
 use Rattle.qual_core.specs.declared.reply.Status.{Status}
 use Rattle.qual_core.specs.declared.reply.Status.TheVariants.{Done, Faulty, FileRefused}
+use Rattle.qual_core.proofs.OneOutcome.{one_outcome}
 
 -- a file has one list of bytes
 same_bytes : (file : Option (List ℕ)) (a b : List ℕ) → file ≡ Some a → file ≡ Some b → b ≡ a
@@ -88,9 +89,12 @@ module _ (liberty verilog : List ℕ) (file : List ℕ → Option (List ℕ)) wh
 
 -- ---- the words
 
+only_outcome : (words : List (List ℕ)) (file : List ℕ → Option (List ℕ)) (reply : Reply) → IsOutcome words file reply → IsOnly (IsOutcome words file) reply
+only_outcome words file reply o = record { is = o; only = λ other h. one_outcome words file other reply h o }
+
 pub usage_answer : (words : List (List ℕ)) (file : List ℕ → Option (List ℕ)) (reply : Reply) → command_of words ≡ None → reply ≡ usage → IsAnswerTo words file reply
 usage_answer words file reply e f = record {
-  outcome = rw e f;
+  outcome = only_outcome words file reply (rw e f);
   refused_exactly = λ line r. absurd (let h = rw e at r.0 in cc);
   truly = λ d. absurd (let h = rw f at d in h);
   accepted = λ a. absurd (let h = rw e at a.command in cc);
@@ -99,13 +103,13 @@ usage_answer words file reply e f = record {
 named_outcome : (name : CommandName) (words : List (List ℕ)) (file : List ℕ → Option (List ℕ)) (reply : Reply) → IsCompareReply (name_beside words Liberty) (name_beside words Verilog) file reply → IsReplyOf name words file reply
 named_outcome Compare words file reply h = h
 
-outcome_named : (name : CommandName) (words : List (List ℕ)) (file : List ℕ → Option (List ℕ)) (reply : Reply) → IsReplyOf name words file reply → IsCompareReply (name_beside words Liberty) (name_beside words Verilog) file reply
+pub outcome_named : (name : CommandName) (words : List (List ℕ)) (file : List ℕ → Option (List ℕ)) (reply : Reply) → IsReplyOf name words file reply → IsCompareReply (name_beside words Liberty) (name_beside words Verilog) file reply
 outcome_named Compare words file reply h = h
 
 pub compare_answer : (words : List (List ℕ)) (c : Command) (file : List ℕ → Option (List ℕ)) (reply : Reply) → command_of words ≡ Some c
     → IsCompareAnswer (name_beside words Liberty) (name_beside words Verilog) file reply → IsAnswerTo words file reply
 compare_answer words c file reply e h = record {
-  outcome = rw e (named_outcome c.name words file reply h.is);
+  outcome = only_outcome words file reply (rw e (named_outcome c.name words file reply h.is));
   refused_exactly = λ line r. h.refused_exactly line (outcome_named c.name words file (refused line) (rw e at r.1));
   truly = λ d. let t = h.truly d in (record { command = rw e (search rules); files = t.0 }, t.1);
   accepted = λ a. h.accepted a.files;

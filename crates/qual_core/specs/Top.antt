@@ -7,7 +7,11 @@ use Rattle.desk_ports.specs.declared.asked.Asked.{Asked}
 use Rattle.qual_core.specs.Command.{command_of, name_beside}
 use Rattle.qual_core.specs.Files.{MAX_FILE, IsLibraryRead, IsSourceRead}
 use Rattle.qual_core.specs.Outcome.{usage, refused, IsCompareReply, IsOutcome}
+use Rattle.cell_compare.specs.declared.comparison.Comparison.{Comparison}
+use Rattle.cell_compare.specs.Compare.{IsComparison}
+use Rattle.cell_compare.specs.Equal.{SaysEqual}
 use Rattle.compare_text.specs.Blocks.{SaysEqualTruly}
+use Rattle.liberty_source.specs.declared.CellPart.{CellPart}
 use Rattle.liberty_source.specs.declared.Library.{Library}
 use Rattle.verilog_source.specs.declared.Source.{Source}
 use Rattle.qual_core.specs.declared.command.Command.{Command}
@@ -106,24 +110,30 @@ pub record UsageExactly (status : Status) (command : Option Command) (no_fault :
   pub only : status ≡ Usage → command ≡ None
   pub comes : command ≡ None → no_fault → IsOrNoMemory status Usage
 
+-- the reply is the outcome: it is one, and there is no other
+pub record IsOnly (outcome : Reply → Type 0) (reply : Reply) : Type 0 where
+  pub is : outcome reply
+  pub only : (other : Reply) → outcome other → other ≡ reply
+
 -- the words are a command of files of which one is refused, the first in reading order, with this line
 abbrev pub IsRefusal : List (List ℕ) → (List ℕ → Option (List ℕ)) → List ℕ → Type 0
 IsRefusal words file line = IsSome (command_of words) × IsOutcome words file (refused line)
 
--- An answer comes only where it is an outcome's, and one comes where there is an outcome and no count rose. A refused
+-- An answer is the status of the one outcome, and where there is an outcome its status comes if no count rose. A refused
 -- file is the answer exactly where one is refused.
 pub record AnswersExactly (status : Status) (words : List (List ℕ)) (file : List ℕ → Option (List ℕ)) (no_fault : Type 0) : Type 0 where
-  pub only : IsAnswer status → (reply : Reply) × IsOutcome words file reply × (reply.status ≡ status)
-  pub comes : (reply : Reply) → IsOutcome words file reply → no_fault → IsAnswer status ⊎ (status ≡ NoMemory)
+  pub only : IsAnswer status → (reply : Reply) × IsOnly (IsOutcome words file) reply × (reply.status ≡ status)
+  pub each : IsAnswer status → (reply : Reply) → IsOutcome words file reply → reply.status ≡ status
+  pub comes : (reply : Reply) → IsOutcome words file reply → no_fault → IsOrNoMemory status reply.status
   pub refused_only : status ≡ FileRefused → (line : List ℕ) × IsRefusal words file line
   pub refused_comes : (line : List ℕ) → IsRefusal words file line → no_fault → IsOrNoMemory status FileRefused
 
--- What is written by each status: the outcome's text whole, a part of it after a fault of the sink, and else nothing.
+-- What is written by each status: the one outcome's text whole, a part of it after a fault of the sink, and else nothing.
 abbrev pub Writes : Status → (Reply → Type 0) → List ℕ → List ℕ → Type 0
 Writes ReadFault outcome old new = new ≡ old
 Writes NoMemory outcome old new = new ≡ old
-Writes WriteFault outcome old new = (reply : Reply) × outcome reply × AppendsPart old new reply.text
-Writes status outcome old new = (reply : Reply) × outcome reply × (reply.status ≡ status) × (new ≡ old ++ reply.text)
+Writes WriteFault outcome old new = (reply : Reply) × IsOnly outcome reply × AppendsPart old new reply.text
+Writes status outcome old new = (reply : Reply) × IsOnly outcome reply × (reply.status ≡ status) × (new ≡ old ++ reply.text)
 
 -- the files of these names are there, and are read as this library and this source text
 pub record AreBothRead (liberty verilog : List ℕ) (file : List ℕ → Option (List ℕ)) : Type 0 where
@@ -140,6 +150,22 @@ pub record AreBothRead (liberty verilog : List ℕ) (file : List ℕ → Option 
 pub record AreAccepted (words : List (List ℕ)) (file : List ℕ → Option (List ℕ)) : Type 0 where
   pub command : IsSome (command_of words)
   pub files : AreBothRead (name_beside words Liberty) (name_beside words Verilog) file
+
+-- each cell was found equal
+abbrev pub AreFoundEqual : List CellPart → Source → Type 0
+AreFoundEqual [] source = Unit {0}
+AreFoundEqual (p ∷ parts) source = ((c : Comparison) × IsComparison p source c × SaysEqual c) × AreFoundEqual parts source
+
+-- the cells of the files that the words name are found equal
+abbrev pub AreAllEqual : {words : List (List ℕ)} {file : List ℕ → Option (List ℕ)} → AreAccepted words file → Type 0
+AreAllEqual a = AreFoundEqual a.files.library.cells a.files.source
+
+-- Done comes exactly where both files are read and each cell is found equal, and Faulty exactly where they are read and one isn't.
+pub record JudgesExactly (status : Status) (words : List (List ℕ)) (file : List ℕ → Option (List ℕ)) (no_fault : Type 0) : Type 0 where
+  pub done : status ≡ Done → (a : AreAccepted words file) × AreAllEqual a
+  pub done_comes : (a : AreAccepted words file) → AreAllEqual a → no_fault → IsOrNoMemory status Done
+  pub faulty : status ≡ Faulty → (a : AreAccepted words file) × (AreAllEqual a → ⊥)
+  pub faulty_comes : (a : AreAccepted words file) → (AreAllEqual a → ⊥) → no_fault → IsOrNoMemory status Faulty
 
 abbrev pub IsDoneOrFaulty : Status → Type 0
 IsDoneOrFaulty Done = Unit {0}
@@ -169,14 +195,14 @@ pub record IsCompareAnswer (liberty verilog : List ℕ) (file : List ℕ → Opt
 
 -- the reply for the words
 pub record IsAnswerTo (words : List (List ℕ)) (file : List ℕ → Option (List ℕ)) (reply : Reply) : Type 0 where
-  pub outcome : IsOutcome words file reply
+  pub outcome : IsOnly (IsOutcome words file) reply
   pub refused_exactly : (line : List ℕ) → IsRefusal words file line → reply.status ≡ FileRefused
   pub truly : SpeaksTruly words file reply
   pub accepted : AreAccepted words file → IsDoneOrFaulty reply.status
 
--- the whole text was written, and the status is Done or Faulty as it says
+-- the whole text of the one outcome was written, and the status is Done or Faulty as it says
 abbrev pub IsWhole : Status → (Reply → Type 0) → List ℕ → List ℕ → Type 0
-IsWhole status outcome old new = IsDoneOrFaulty status × ((reply : Reply) × outcome reply × (reply.status ≡ status) × (new ≡ old ++ reply.text))
+IsWhole status outcome old new = IsDoneOrFaulty status × ((reply : Reply) × IsOnly outcome reply × (reply.status ≡ status) × (new ≡ old ++ reply.text))
 
 -- there is room for the text of the outcome
 abbrev pub HasRoom : (Reply → Type 0) → ℕ → Type 0

@@ -3,6 +3,7 @@
 
 mod command;
 mod files;
+pub mod laws;
 mod reply;
 mod top;
 

@@ -4,7 +4,7 @@ ghost use Rattle.desk_ports.specs.Faults.{NoneFails};
 ghost use Rattle.compare_text.specs.Blocks.{SaysEqualTruly};
 ghost use Rattle.qual_core.specs.Command.{texts, command_of, names, word_at};
 ghost use Rattle.qual_core.specs.Outcome.{usage, totals_status, IsCompared, refused, IsOutcome};
-ghost use Rattle.qual_core.specs.Top.{Blames, AsksFor, AreThere, IsVerdict, IsDoneOrFaulty, IsUsageOrVerdict, NoCountRose, UsageExactly, AnswersExactly, Writes, WritesTruly, AreAccepted, IsWhole, HasRoom, IsCompareAnswer, IsAnswerTo};
+ghost use Rattle.qual_core.specs.Top.{Blames, AsksFor, AreThere, IsVerdict, IsDoneOrFaulty, IsUsageOrVerdict, NoCountRose, UsageExactly, AnswersExactly, JudgesExactly, Writes, WritesTruly, AreAccepted, IsWhole, HasRoom, IsCompareAnswer, IsAnswerTo};
 ghost use Rattle.qual_core.specs.declared.files.Failure.TheVariants.{NoMemory};
 
 use crate::command::{Command, CommandName, command_of};
@@ -176,7 +176,7 @@ pub fn qual<S: Shelf, K: Sink>(
     ensures equal { IsTrue S.tells → IsTrue K.tells
         → WritesTruly result (texts words.now) (S.file shelf.old) (K.written out.old) (K.written out.new) }
 
-    // The bytes written are those of the outcome.
+    // The bytes written are those of the outcome, of which there is one.
     ensures text { IsTrue S.tells → IsTrue K.tells → Writes result
         (IsOutcome (texts words.now) (S.file shelf.old)) (K.written out.old) (K.written out.new) }
     ensures usage_line { IsTrue K.tells → result ≡ Status.Usage
@@ -188,6 +188,10 @@ pub fn qual<S: Shelf, K: Sink>(
     ensures usage { UsageExactly result (command_of (texts words.now)) (NoCountRose
         (S.faults shelf.old) (S.faults shelf.new) (K.faults out.old) (K.faults out.new)) }
     ensures answer { IsTrue S.tells → AnswersExactly result (texts words.now) (S.file shelf.old) (NoCountRose
+        (S.faults shelf.old) (S.faults shelf.new) (K.faults out.old) (K.faults out.new)) }
+
+    // Done says that each cell was found equal, and Faulty that one wasn't.
+    ensures verdict { IsTrue S.tells → JudgesExactly result (texts words.now) (S.file shelf.old) (NoCountRose
         (S.faults shelf.old) (S.faults shelf.new) (K.faults out.old) (K.faults out.new)) }
 
     // Two files that are accepted are compared, and the whole text is written.

@@ -2,6 +2,7 @@ use Rattle.std.proofs.Common.{refl, inr, rules}
 use Rattle.qual_core.specs.Command.{texts, command_of}
 use Rattle.qual_core.specs.Outcome.{IsOutcome}
 use Rattle.qual_core.proofs.Ends.{reply_answers, no_read_fault, no_write_fault, kept_blames, usage_exactly, usage_text, writes_whole, writes_truly, answers_exactly}
+use Rattle.qual_core.proofs.Judging.{judges_exactly}
 use Rattle.qual_core.proofs.top.qual.Goals as goal
 
 pub returns-in-Ok-put-clause-equal : goal.returns-in-Ok-put-clause-equal
@@ -39,6 +40,10 @@ pub returns-in-Ok-put-clause-answer : goal.returns-in-Ok-put-clause-answer
 returns-in-Ok-put-clause-answer g c told =
     answers_exactly (texts c.args.words.now) (g.S.Shelf.file c.args.shelf.now) c.in-Ok.reply _
     (reply_answers (command_of (texts c.args.words.now)) c.in-Ok.reply c.in-Ok.ensures.status) (c.in-Ok.ensures.reply told)
+
+pub returns-in-Ok-put-clause-verdict : goal.returns-in-Ok-put-clause-verdict
+returns-in-Ok-put-clause-verdict g c told =
+    judges_exactly (texts c.args.words.now) (g.S.Shelf.file c.args.shelf.now) c.in-Ok.reply _ (c.in-Ok.ensures.reply told).outcome.is
 
 pub returns-in-Ok-put-clause-complete : goal.returns-in-Ok-put-clause-complete
 returns-in-Ok-put-clause-complete g c told sink a nf =
