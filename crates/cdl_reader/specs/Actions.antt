@@ -5,6 +5,7 @@ use Rattle.text_scan.specs.declared.limits.Limits.{Limits}
 use Rattle.text_scan.specs.declared.limits.LimitKind.TheVariants as limit_kinds
 use Rattle.text_scan.specs.declared.refusal.FileRefusal.{FileRefusal}
 use Rattle.text_scan.specs.declared.refusal.FileRefusal.TheVariants as refusals
+use Rattle.file_rules.specs.Refusals.{too_many}
 use Rattle.cdl_cards.specs.Words.{PlacedWord}
 use Rattle.cdl_cards.specs.Cards.{Card}
 use Rattle.cdl_reader.specs.Words.{Fault, too_long, no_name, first_of, fault_of, first_fault, fault_among, kind_of_card, behind, operands}
@@ -15,9 +16,6 @@ use Rattle.cdl_reader.specs.declared.kinds.CardKind.TheVariants as kinds
 use Rattle.cdl_reader.specs.declared.part.Part.{Part}
 use Rattle.cdl_reader.specs.declared.parts.Parts.{Parts}
 
-abbrev pub long_name : Limits → FileRefusal
-long_name limits = refusals.TooMany limit_kinds.Name limits.name
-
 abbrev pub at_word : PlacedWord → FileRefusal
 at_word w = refusals.Syntax w.line w.column
 
@@ -25,7 +23,7 @@ at_word w = refusals.Syntax w.line w.column
 
 abbrev pub adds : Limits → Option Fault → Part → Part → Result Part FileRefusal
 adds limits None new old = Ok new
-adds limits (Some too_long) new old = Err (long_name limits)
+adds limits (Some too_long) new old = Err (too_many limits limit_kinds.Name)
 adds limits (Some (no_name w)) new old = Ok (refused_at w old)
 
 -- the card's first word
@@ -81,7 +79,7 @@ double_name w = refusals.DoubleName w.bytes w.line
 -- what is told of a fault
 abbrev pub refusal_by : Limits → Option Fault → Option FileRefusal
 refusal_by limits None = None
-refusal_by limits (Some too_long) = Some (long_name limits)
+refusal_by limits (Some too_long) = Some (too_many limits limit_kinds.Name)
 refusal_by limits (Some (no_name w)) = Some (at_word w)
 
 -- why a word can't name a subcircuit
@@ -101,7 +99,7 @@ opened limits s (name ∷ pins) =
 -- what the first card of a subcircuit adds
 unfoldable pub begin : Limits → Card → Parts → Result Parts FileRefusal
 begin limits card s =
-    if nat_le limits.cells (length s.parts) then Err (refusals.TooMany limit_kinds.Cells limits.cells)
+    if nat_le limits.cells (length s.parts) then Err (too_many limits limit_kinds.Cells)
     else opened limits s (operands (behind card))
 
 -- ---- the end of a subcircuit

@@ -15,19 +15,9 @@ use crate::pins::{directed, tell};
 use crate::transistors::transistor;
 use cdl_cards::{Cards, Word};
 use circuit::{Subcircuit, SubcircuitPart};
-use file_rules::shown_word;
+use file_rules::{shown_word, too_many};
 use std::alloc::Global;
 use text_scan::{FileRefusal, Items, LimitKind, Limits, NoMemory, Text};
-
-/// The refusal of a name that is too long.
-pub fn long_name(limits: &Limits) -> FileRefusal
-    ensures { result ≡ spec.long_name limits.now }
-{
-    FileRefusal::TooMany {
-        kind: LimitKind::Name,
-        number: limits.name,
-    }
-}
 
 // The pins of a card whose name was read.
 fn read_pins<'a>(
@@ -91,7 +81,7 @@ impl Part {
     {
         match fault {
             WordFault::NoMemory => Err(FileRefusal::NoMemory),
-            WordFault::TooLong => Err(long_name(limits)),
+            WordFault::TooLong => Err(too_many(limits, LimitKind::Name)),
             WordFault::NoName(word) => match self.refuse(alloc, word) {
                 Err(_) => Err(FileRefusal::NoMemory),
                 Ok(()) => Ok(()),

@@ -8,11 +8,11 @@ ghost use Rattle.file_rules.specs.Told.{TellsSome};
 ghost use Rattle.file_rules.specs.Told.{Steps};
 ghost use Rattle.cdl_reader.specs.Words.{Fault, operands};
 
-use crate::actions::long_name;
 use crate::names::{WordFault, check_name, next_operand};
 use crate::part::Part;
 use crate::parts::Parts;
 use cdl_cards::{Cards, Word};
+use file_rules::too_many;
 use name_index::Names;
 use std::alloc::Global;
 use std::mem;
@@ -34,7 +34,7 @@ fn refusal_by(limits: &Limits, fault: WordFault<'_>) -> FileRefusal
 {
     match fault {
         WordFault::NoMemory => FileRefusal::NoMemory,
-        WordFault::TooLong => long_name(limits),
+        WordFault::TooLong => too_many(limits, LimitKind::Name),
         WordFault::NoName(word) => at_word(word),
     }
 }
@@ -135,10 +135,7 @@ impl Parts {
         ensures cards { cards_left cards.new ≡ cards_left cards.old }
     {
         if limits.cells as usize <= self.parts.len() {
-            return Err(FileRefusal::TooMany {
-                kind: LimitKind::Cells,
-                number: limits.cells,
-            });
+            return Err(too_many(limits, LimitKind::Cells));
         }
         match next_operand(cards) {
             None => Ok(false),

@@ -23,7 +23,8 @@ use Rattle.liberty_statements.specs.Steps.{step, taken, stopped, unless_included
 use Rattle.liberty_statements.specs.Bounds.{IsBounded}
 use Rattle.liberty_statements.specs.Does.{Leads, beginning, nothing}
 use Rattle.liberty_statements.specs.ToCome.{Answer, IsPlaced}
-use Rattle.liberty_statements.specs.Answer.{library_file, file_tokens, at_token, refused, told, halted}
+use Rattle.liberty_statements.specs.Answer.{library_file, file_tokens, refused, told, halted}
+use Rattle.file_rules.specs.Refusals.{at_token}
 use Rattle.file_rules.specs.Told.{Agrees, Tells}
 use Rattle.liberty_statements.proofs.Takes.{reads_left, leads_to, take_ok, take_placed}
 

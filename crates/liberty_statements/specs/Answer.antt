@@ -3,12 +3,11 @@ use Rattle.std.specs.Prelude.{◌≡◌, ℕ, false, List, [], ◌∷◌, Result
 use Rattle.text_scan.specs.declared.token.Token.{Token}
 use Rattle.text_scan.specs.declared.token.Style.TheVariants as styles
 use Rattle.text_scan.specs.declared.limits.Limits.{Limits}
-use Rattle.text_scan.specs.declared.limits.LimitKind.{LimitKind}
-use Rattle.text_scan.specs.declared.limits.LimitKind.TheVariants as limit_kinds
 use Rattle.text_scan.specs.declared.refusal.FileRefusal.{FileRefusal}
 use Rattle.text_scan.specs.declared.refusal.FileRefusal.TheVariants as refusals
 use Rattle.text_scan.specs.Tokens.{tokens_of}
 use Rattle.grammar.specs.Reading.{syntax, refusal}
+use Rattle.file_rules.specs.Refusals.{at_token, too_many}
 use Rattle.liberty_statements.specs.declared.halt.Refusal.{Refusal}
 use Rattle.liberty_statements.specs.declared.halt.Refusal.TheVariants as reasons
 use Rattle.liberty_statements.specs.declared.halt.Halt.{Halt}
@@ -27,18 +26,8 @@ library_file source limits = file source limits limits.nesting
 unfoldable pub file_tokens : List ℕ → List Token
 file_tokens source = visible source false (tokens_of styles.Liberty source)
 
-abbrev pub limit_of : Limits → LimitKind → ℕ
-limit_of limits limit_kinds.Name = limits.name
-limit_of limits limit_kinds.Cells = limits.cells
-limit_of limits limit_kinds.Nesting = limits.nesting
-limit_of limits _ = 0
-
--- a token's place
-abbrev pub at_token : Token → FileRefusal
-at_token t = refusals.Syntax t.span.line t.span.column
-
 abbrev pub refused : List ℕ → Limits → Refusal → FileRefusal
-refused source limits (reasons.TooMany kind) = refusals.TooMany kind (limit_of limits kind)
+refused source limits (reasons.TooMany kind) = too_many limits kind
 refused source limits (reasons.BadName t) = at_token t
 refused source limits (reasons.DoubleName t) = refusals.DoubleName (content source t) t.span.line
 

@@ -9,29 +9,10 @@ ghost use Rattle.file_rules.specs.Told.{Agrees, Tells};
 use crate::halt::{Halt, Refusal};
 use crate::machine::{Machine, Phase};
 use crate::statements::Statements;
+use file_rules::{at_token, too_many};
 use liberty_tokens::content;
 use std::alloc::Global;
-use text_scan::{Cursor, FileRefusal, Kind, LimitKind, Limits, Style, Token};
-
-fn limit_of(limits: &Limits, kind: LimitKind) -> u32
-    ensures { result ≡ spec.limit_of limits.now kind }
-{
-    match kind {
-        LimitKind::Name => limits.name,
-        LimitKind::Cells => limits.cells,
-        LimitKind::Nesting => limits.nesting,
-        _ => 0,
-    }
-}
-
-fn at_token(token: Token) -> FileRefusal
-    ensures { result ≡ spec.at_token token }
-{
-    FileRefusal::Syntax {
-        line: token.span.line,
-        column: token.span.column,
-    }
-}
+use text_scan::{Cursor, FileRefusal, Kind, Limits, Style, Token};
 
 fn double_name(alloc: Global, source: &[u8], token: Token) -> FileRefusal
     ensures { Tells result (spec.double source.now token) }
@@ -52,10 +33,7 @@ fn halted(alloc: Global, source: &[u8], limits: &Limits, halt: Halt, token: Toke
     match halt {
         Halt::NoMemory => FileRefusal::NoMemory,
         Halt::Syntax => at_token(token),
-        Halt::Refused(Refusal::TooMany(kind)) => FileRefusal::TooMany {
-            kind,
-            number: limit_of(limits, kind),
-        },
+        Halt::Refused(Refusal::TooMany(kind)) => too_many(limits, kind),
         Halt::Refused(Refusal::BadName(name)) => at_token(name),
         Halt::Refused(Refusal::DoubleName(name)) => double_name(alloc, source, name),
     }

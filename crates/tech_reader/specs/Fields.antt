@@ -6,6 +6,7 @@ use Rattle.text_scan.specs.declared.limits.LimitKind.TheVariants as limit_kinds
 use Rattle.text_scan.specs.declared.refusal.FileRefusal.{FileRefusal}
 use Rattle.text_scan.specs.declared.refusal.FileRefusal.TheVariants as refusals
 use Rattle.file_rules.specs.Names.{is_name, is_too_long}
+use Rattle.file_rules.specs.Refusals.{too_many}
 use Rattle.tech_reader.specs.declared.fields.Kind.{Kind}
 use Rattle.tech_reader.specs.declared.fields.Kind.TheVariants as kinds
 
@@ -20,7 +21,7 @@ unless ok line column = if ok then None else Some (refusals.Syntax line column)
 -- nothing where the field is a name; its length is judged first
 unfoldable pub named : Limits → ℕ → ℕ → List ℕ → Option FileRefusal
 named limits line column field =
-    if is_too_long limits field then Some (refusals.TooMany limit_kinds.Name limits.name)
+    if is_too_long limits field then Some (too_many limits limit_kinds.Name)
     else unless (is_name field) line column
 
 unfoldable pub is_channel : List ℕ → Bool

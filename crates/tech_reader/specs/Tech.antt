@@ -8,6 +8,7 @@ use Rattle.text_scan.specs.declared.refusal.FileRefusal.{FileRefusal}
 use Rattle.text_scan.specs.declared.refusal.FileRefusal.TheVariants as refusals
 use Rattle.text_scan.specs.declared.pins.PinKind.{PinKind}
 use Rattle.text_scan.specs.declared.pins.PinKind.TheVariants as pin_kinds
+use Rattle.file_rules.specs.Refusals.{too_many}
 use Rattle.circuit.specs.declared.tech.Tech.{Tech}
 use Rattle.circuit.specs.declared.tech.ModelCard.{ModelCard}
 use Rattle.circuit.specs.declared.tech.Size.{Size}
@@ -47,7 +48,7 @@ doubled line before row = if is_known (key row) (map key before) then double row
 -- why a record is refused after these
 unfoldable pub refusal_after : Limits → List (List (List ℕ)) → List (List ℕ) → Option FileRefusal
 refusal_after limits before row =
-    if nat_le limits.records (length before) then Some (refusals.TooMany limit_kinds.Records limits.records)
+    if nat_le limits.records (length before) then Some (too_many limits limit_kinds.Records)
     else first_of (wrong limits (length before + 1) row) (doubled (length before + 1) before row)
 
 -- the first refusal of the records that come after these

@@ -9,7 +9,7 @@ ghost use Rattle.file_rules.specs.Told.{TellsSome};
 
 use circuit::{ModelCard, Size, Supply};
 use csv::ByteRecord;
-use file_rules::{is_name, is_too_long};
+use file_rules::{is_name, is_too_long, too_many};
 use std::alloc::Global;
 use text_scan::{FileRefusal, LimitKind, Limits, NoMemory, PinKind, Text};
 
@@ -95,10 +95,7 @@ fn check_name(limits: &Limits, line: u32, column: u32, field: &[u8]) -> Result<(
     ensures { refusal_of result ≡ spec.named limits.now line column field.now }
 {
     if is_too_long(limits, field) {
-        return Err(FileRefusal::TooMany {
-            kind: LimitKind::Name,
-            number: limits.name,
-        });
+        return Err(too_many(limits, LimitKind::Name));
     }
     unless(is_name(field), line, column)
 }

@@ -8,6 +8,7 @@ ghost use Rattle.tech_reader.specs.Tech as tech;
 use crate::fields::{Fields, Kind};
 use circuit::{ModelCard, Size, Supply, Tech};
 use csv::ByteRecord;
+use file_rules::too_many;
 use name_index::Names;
 use std::alloc::Global;
 use text_scan::{FileRefusal, Items, LimitKind, Limits, NoMemory};
@@ -82,10 +83,7 @@ impl Parts {
     {
         let count = self.names.len();
         if limits.records as usize <= count {
-            return Err(FileRefusal::TooMany {
-                kind: LimitKind::Records,
-                number: limits.records,
-            });
+            return Err(too_many(limits, LimitKind::Records));
         }
         let line = count as u32 + 1;
         let Some(fields) = Fields::of(row) else {

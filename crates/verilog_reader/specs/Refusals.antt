@@ -2,10 +2,10 @@
 use Rattle.std.specs.Prelude.{ℕ, List, [], ◌∷◌}
 use Rattle.text_scan.specs.declared.token.Token.{Token}
 use Rattle.text_scan.specs.declared.limits.Limits.{Limits}
-use Rattle.text_scan.specs.declared.limits.LimitKind.{LimitKind}
 use Rattle.text_scan.specs.declared.limits.LimitKind.TheVariants as limit_kinds
 use Rattle.text_scan.specs.declared.refusal.FileRefusal.{FileRefusal}
 use Rattle.text_scan.specs.declared.refusal.FileRefusal.TheVariants as told
+use Rattle.file_rules.specs.Refusals.{at_token, too_many}
 use Rattle.grammar.specs.Reading.{Stop, syntax, refusal}
 use Rattle.verilog_directives.specs.declared.left.Left.{Left}
 use Rattle.verilog_directives.specs.declared.left.Role.{Role}
@@ -13,19 +13,6 @@ use Rattle.verilog_directives.specs.declared.left.Role.TheVariants as roles
 use Rattle.verilog_looks.specs.declared.halt.Refusal.{Refusal}
 use Rattle.verilog_looks.specs.declared.halt.Refusal.TheVariants as refusals
 use Rattle.verilog_looks.specs.Names.{content}
-
-abbrev pub limit_of : Limits → LimitKind → ℕ
-limit_of limits limit_kinds.Name = limits.name
-limit_of limits limit_kinds.Cells = limits.cells
-limit_of limits limit_kinds.Nesting = limits.nesting
-limit_of limits _ = 0
-
--- a token's place
-abbrev pub at_token : Token → FileRefusal
-at_token t = told.Syntax t.span.line t.span.column
-
-abbrev pub too_many : Limits → LimitKind → FileRefusal
-too_many limits kind = told.TooMany kind (limit_of limits kind)
 
 abbrev pub role_refusal : Limits → Role → Token → FileRefusal
 role_refusal limits roles.Plain t = at_token t

@@ -3,39 +3,11 @@ ghost use Rattle.std.specs.Prelude.{◌≡◌, ◌∷◌, []};
 ghost use Rattle.verilog_reader.specs.Refusals as spec;
 ghost use Rattle.file_rules.specs.Told.{Tells};
 
+use file_rules::{at_token, too_many};
 use std::alloc::Global;
 use text_scan::{FileRefusal, LimitKind, Limits, Text, Token};
 use verilog_directives::{Left, Role};
 use verilog_looks::{Refusal, content};
-
-fn limit_of(limits: &Limits, kind: LimitKind) -> u32
-    ensures { result ≡ spec.limit_of limits.now kind }
-{
-    match kind {
-        LimitKind::Name => limits.name,
-        LimitKind::Cells => limits.cells,
-        LimitKind::Nesting => limits.nesting,
-        _ => 0,
-    }
-}
-
-fn at_token(token: Token) -> FileRefusal
-    ensures { result ≡ spec.at_token token }
-{
-    FileRefusal::Syntax {
-        line: token.span.line,
-        column: token.span.column,
-    }
-}
-
-fn too_many(limits: &Limits, kind: LimitKind) -> FileRefusal
-    ensures { result ≡ spec.too_many limits.now kind }
-{
-    FileRefusal::TooMany {
-        kind,
-        number: limit_of(limits, kind),
-    }
-}
 
 /// What is told of an item that may not stand where it stands.
 pub fn item_refusal(limits: &Limits, item: &Left) -> FileRefusal

@@ -5,7 +5,7 @@ use Rattle.cdl_reader.proofs.Begins.{begin_full, begin_opens, steps_along}
 use Rattle.cdl_reader.proofs.parts.Parts.begin.Goals as goal
 
 pub returns-then-limits-len-clause-begun : goal.returns-then-limits-len-clause-begun
-returns-then-limits-len-clause-begun c = begin_full c.args.limits.now (word_of c.args.first ∷ card_left c.args.cards.now) c.args.self.now (omega arith)
+returns-then-limits-len-clause-begun c = rw c.too_many.ensures (begin_full c.args.limits.now (word_of c.args.first ∷ card_left c.args.cards.now) c.args.self.now (omega arith))
 
 pub returns-in-None-clause-begun : goal.returns-in-None-clause-begun
 returns-in-None-clause-begun c = begin_opens c.args.limits.now (word_of c.args.first) (card_left c.args.cards.now) [] c.args.self.now (omega arith) c.in-None.ensures.operand

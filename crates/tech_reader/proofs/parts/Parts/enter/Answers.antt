@@ -8,7 +8,7 @@ use Rattle.tech_reader.proofs.parts.Parts.enter.Goals as goal
 
 pub returns-then-limits-count-clause-entered : goal.returns-then-limits-count-clause-entered
 returns-then-limits-count-clause-entered c =
-    λ rows h. too_many c.args.limits.now c.args.self.now rows (fields_of c.args.row.now) c.len-count.result h c.len-count.ensures c.if-limits-count.true
+    λ rows h. rw c.too_many.ensures (too_many c.args.limits.now c.args.self.now rows (fields_of c.args.row.now) c.len-count.result h c.len-count.ensures c.if-limits-count.true)
 
 pub returns-in_default-clause-entered : goal.returns-in_default-clause-entered
 returns-in_default-clause-entered c =
