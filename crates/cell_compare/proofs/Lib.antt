@@ -8,5 +8,4 @@ pub mod Cuts
 pub mod OneReason
 pub mod OneTable
 pub mod OneNetwork
-pub mod OneFindings
 pub mod OneComparison

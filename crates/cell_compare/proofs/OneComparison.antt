@@ -34,7 +34,7 @@ use Rattle.cell_compare.specs.Compare.{Either, refused, finding_of, AreCompared,
 use Rattle.cell_compare.proofs.OneReason.{one_meaning_reason}
 use Rattle.cell_compare.proofs.OneTable.{made_once}
 use Rattle.cell_compare.proofs.OneNetwork.{one_gate_reason, net_or_reason, settle_alike}
-use Rattle.cell_compare.proofs.OneFindings.{one_list}
+use Rattle.pin_tables.proofs.OneList.{one_list}
 
 -- ---- the rows
 

@@ -2,4 +2,4 @@ mod Names
 mod Indexes
 mod Lists
 mod Tables
-mod OneList
+pub mod OneList
