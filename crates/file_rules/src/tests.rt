@@ -25,7 +25,13 @@ fn is_too_many(refusal: FileRefusal, limit: LimitKind, most: u32) -> bool {
 fn refusals_are_told(rt: HostRuntime) -> Result<(), Fail> {
     let limits = Limits::standard();
     assert!(rt; is_too_many(too_many(&limits, LimitKind::Name), LimitKind::Name, 128));
-    assert!(rt; is_too_many(too_many(&limits, LimitKind::Records), LimitKind::Records, 65_536));
+    assert!(rt;
+        is_too_many(
+            too_many(&limits, LimitKind::Records),
+            LimitKind::Records,
+            65_536
+        )
+    );
     assert!(rt; is_too_many(too_many(&limits, LimitKind::Rows), LimitKind::Rows, 0));
     let token = Token {
         kind: Kind::Word,
