@@ -10,7 +10,7 @@ use Rattle.pin_tables.specs.declared.table.Role.{Role}
 use Rattle.pin_tables.specs.declared.index.PinIndex.{PinIndex}
 use Rattle.pin_tables.specs.Tables.{has_name, role_of, said_of}
 use Rattle.pin_tables.specs.Index.{found, Adds, IsIndexOf}
-use Rattle.pin_tables.specs.Indexed.{Joins}
+use Rattle.pin_tables.specs.Lookups.{Joins}
 
 pub eq_back : (a b : List ℕ) → bytes_eq a b ≡ bytes_eq b a
 eq_back a b = nat_list_eq_equiv.symm a b

@@ -1,5 +1,6 @@
 mod Names
 mod Indexes
+mod Lookups
 mod Lists
 mod Tables
 pub mod OneList

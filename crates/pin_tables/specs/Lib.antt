@@ -2,5 +2,6 @@ pub mod Tables
 pub mod Rules
 pub mod Findings
 pub mod Index
-pub mod Indexed
+pub mod Held
+pub mod Lookups
 pub mod Makers

@@ -73,9 +73,3 @@ indexed_supply names s = if is_some (found names s.0) then [] else supply_pin s 
 
 abbrev pub indexed_supplies : PinIndex → List (List ℕ × PinKind) → List Pin
 indexed_supplies names supplies = flat_map (indexed_supply names) supplies
-
-abbrev pub indexed_kind : PinIndex → List ℕ → PinKind
-indexed_kind known name = kind_or_signal (found known name)
-
-abbrev pub indexed_port : PinIndex → Port → Pin
-indexed_port known p = pin p.name p.direction (indexed_kind known p.name)

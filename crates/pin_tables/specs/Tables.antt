@@ -8,6 +8,9 @@ use Rattle.pin_tables.specs.declared.table.Role.{Role}
 abbrev pub has_name : List ℕ → Pin → Bool
 has_name name p = bytes_eq name p.name
 
+abbrev pub name_of : Pin → List ℕ
+name_of p = p.name
+
 abbrev pub role_of : Pin → Role
 role_of p = record { direction = p.direction; kind = p.kind }
 

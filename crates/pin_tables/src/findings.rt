@@ -4,12 +4,16 @@ ghost use Rattle.std.specs.List.Sorted.{IsStrictlySortedBy};
 ghost use Rattle.std.specs.Cmp.Lexicographic.{slice_cmp};
 ghost use Rattle.std.specs.Ordering.{nat_cmp};
 ghost use Rattle.pin_tables.specs.Findings as spec;
-ghost use Rattle.pin_tables.specs.Indexed as indexed;
+ghost use Rattle.pin_tables.specs.Index.{IsIndexOf};
+ghost use Rattle.pin_tables.specs.Lookups as looked;
+ghost use Rattle.pin_tables.specs.Tables.{name_of};
 
 use crate::absent::{add_absent, push};
 use crate::index::PinIndex;
+use crate::lookup::PinLookup;
 use crate::rule::broken;
 use crate::table::{FourViews, Pin, PinTable};
+use name_index::Names;
 use std::alloc::Global;
 use text_scan::{NoMemory, Text};
 use verdict_text::{Code, Finding, View};
@@ -21,9 +25,9 @@ pub fn pin_findings(alloc: Global, views: &FourViews) -> Result<Vec<Finding>, No
 {
     let mut found = Vec::new(alloc);
     add_all_absent(views, &mut found)?;
-    let indexes = Indexes::of(alloc, views)?;
+    let lookups = Lookups::of(alloc, views)?;
     let pins = views.liberty.pins.as_slice();
-    let liberty = add_liberty(alloc, pins, &indexes, &mut found)?;
+    let liberty = add_liberty(alloc, pins, &lookups, &mut found)?;
     let others = other_pins(alloc, views, &liberty)?;
     add_others(alloc, &others, &mut found)?;
     Ok(found)
@@ -38,36 +42,39 @@ fn add_all_absent(views: &FourViews, found: &mut Vec<Finding>) -> Result<(), NoM
     Ok(())
 }
 
-fn index_of(alloc: Global, table: &Option<PinTable>) -> Result<Option<PinIndex>, NoMemory>
-    ensures { IfOk result (indexed.IsIndexed table.now) }
+fn lookup_of<'a>(
+    alloc: Global,
+    table: &'a Option<PinTable>,
+) -> Result<Option<PinLookup<'a>>, NoMemory>
+    ensures { IfOk result (λ lookup. lookup ≡ looked.pins_in table.now) }
 {
     match table {
         None => Ok(None),
-        Some(table) => Ok(Some(PinIndex::of(alloc, table.pins.as_slice())?)),
+        Some(table) => Ok(Some(PinLookup::of(alloc, table.pins.as_slice())?)),
     }
 }
 
 /// The views that are there, by name.
 #[derive(Drop)]
-struct Indexes {
-    verilog: Option<PinIndex>,
-    cdl: Option<PinIndex>,
-    lef: Option<PinIndex>,
+struct Lookups<'a> {
+    verilog: Option<PinLookup<'a>>,
+    cdl: Option<PinLookup<'a>>,
+    lef: Option<PinLookup<'a>>,
 }
 
-impl Indexes {
-    fn of(alloc: Global, views: &FourViews) -> Result<Indexes, NoMemory>
-        ensures { IfOk result (indexed.AreIndexed views.now) }
+impl<'a> Lookups<'a> {
+    fn of(alloc: Global, views: &'a FourViews) -> Result<Lookups<'a>, NoMemory>
+        ensures { IfOk result (looked.AreLookups views.now) }
     {
-        Ok(Indexes {
-            verilog: index_of(alloc, &views.verilog)?,
-            cdl: index_of(alloc, &views.cdl)?,
-            lef: index_of(alloc, &views.lef)?,
+        Ok(Lookups {
+            verilog: lookup_of(alloc, &views.verilog)?,
+            cdl: lookup_of(alloc, &views.cdl)?,
+            lef: lookup_of(alloc, &views.lef)?,
         })
     }
 
     fn check(&self, alloc: Global, pin: &Pin, found: &mut Vec<Finding>) -> Result<(), NoMemory>
-        ensures { OnOk result (found.new.items ≡ found.old.items ++ indexed.at_pin self.now pin.now) }
+        ensures { OnOk result (found.new.items ≡ found.old.items ++ looked.at_pin self.now pin.now) }
     {
         add_broken(alloc, View::Verilog, &self.verilog, pin, found)?;
         add_broken(alloc, View::Cdl, &self.cdl, pin, found)?;
@@ -79,16 +86,16 @@ impl Indexes {
 fn add_broken(
     alloc: Global,
     view: View,
-    index: &Option<PinIndex>,
+    lookup: &Option<PinLookup<'_>>,
     pin: &Pin,
     found: &mut Vec<Finding>,
 ) -> Result<(), NoMemory>
-    ensures { OnOk result (found.new.items ≡ found.old.items ++ indexed.at_view view index.now pin.now) }
+    ensures { OnOk result (found.new.items ≡ found.old.items ++ looked.at_view view lookup.now pin.now) }
 {
-    match index {
+    match lookup {
         None => Ok(()),
-        Some(index) => {
-            let said = index.get(pin.name.as_bytes());
+        Some(lookup) => {
+            let said = lookup.get(pin.name.as_bytes());
             add_code(
                 alloc,
                 broken(view, pin.role(), said),
@@ -118,36 +125,38 @@ fn add_code(
 // The findings at one of Liberty's pins, unless a pin before it has its name.
 fn add_pin(
     alloc: Global,
-    seen: &mut PinIndex,
+    seen: &mut Names,
     pin: &Pin,
-    indexes: &Indexes,
+    lookups: &Lookups<'_>,
     found: &mut Vec<Finding>,
 ) -> Result<(), NoMemory>
-    ensures { OnOk result (indexed.AddsPin indexes.now pin.now seen.old seen.new found.old.items found.new.items) }
+    ensures seen { OnOk result (seen.new ≡ seen.old ++ pin.now.name ∷ []) }
+    ensures found { OnOk result (found.new.items ≡ found.old.items ++ looked.unless_seen seen.old lookups.now pin.now) }
 {
-    if seen.add(alloc, pin)? {
-        indexes.check(alloc, pin, found)?;
+    if !seen.contains(pin.name.as_bytes()) {
+        lookups.check(alloc, pin, found)?;
     }
-    Ok(())
+    seen.push(alloc, pin.name.as_bytes())
 }
 
 fn add_liberty(
     alloc: Global,
     pins: &[Pin],
-    indexes: &Indexes,
+    lookups: &Lookups<'_>,
     found: &mut Vec<Finding>,
-) -> Result<PinIndex, NoMemory>
-    ensures { IfOk result (λ seen. indexed.AddsPins indexes.now pins.now seen found.old.items found.new.items) }
+) -> Result<Names, NoMemory>
+    ensures seen { IfOk result (λ seen. seen ≡ map name_of pins.now) }
+    ensures found { OnOk result (found.new.items ≡ found.old.items ++ looked.at_first_pins lookups.now pins.now) }
 {
-    let mut seen = PinIndex::new(alloc);
+    let mut seen = Names::new(alloc);
     for pin in pins {
-        add_pin(alloc, &mut seen, pin, indexes, found)?;
+        add_pin(alloc, &mut seen, pin, lookups, found)?;
     }
     Ok(seen)
 }
 
-fn other_pins(alloc: Global, views: &FourViews, liberty: &PinIndex) -> Result<PinIndex, NoMemory>
-    ensures { IfOk result (indexed.IsIndexOf (indexed.strangers liberty.now (spec.viewed_pins views.now))) }
+fn other_pins(alloc: Global, views: &FourViews, liberty: &Names) -> Result<PinIndex, NoMemory>
+    ensures { IfOk result (IsIndexOf (looked.strangers liberty.now (spec.viewed_pins views.now))) }
 {
     let mut others = PinIndex::new(alloc);
     add_strangers(alloc, &views.verilog, liberty, &mut others)?;
@@ -159,10 +168,10 @@ fn other_pins(alloc: Global, views: &FourViews, liberty: &PinIndex) -> Result<Pi
 fn add_strangers(
     alloc: Global,
     table: &Option<PinTable>,
-    liberty: &PinIndex,
+    liberty: &Names,
     others: &mut PinIndex,
 ) -> Result<(), NoMemory>
-    ensures { OnOk result (indexed.Joins (indexed.strangers liberty.now (spec.pins_of table.now)) others.old others.new) }
+    ensures { OnOk result (looked.Joins (looked.strangers liberty.now (spec.pins_of table.now)) others.old others.new) }
 {
     match table {
         None => Ok(()),
@@ -173,10 +182,10 @@ fn add_strangers(
 fn add_strange_pins(
     alloc: Global,
     pins: &[Pin],
-    liberty: &PinIndex,
+    liberty: &Names,
     others: &mut PinIndex,
 ) -> Result<(), NoMemory>
-    ensures { OnOk result (indexed.Joins (indexed.strangers liberty.now pins.now) others.old others.new) }
+    ensures { OnOk result (looked.Joins (looked.strangers liberty.now pins.now) others.old others.new) }
 {
     for pin in pins {
         add_stranger(alloc, pin, liberty, others)?;
@@ -187,20 +196,20 @@ fn add_strange_pins(
 fn add_stranger(
     alloc: Global,
     pin: &Pin,
-    liberty: &PinIndex,
+    liberty: &Names,
     others: &mut PinIndex,
 ) -> Result<(), NoMemory>
-    ensures { OnOk result (indexed.Joins (indexed.strangers liberty.now (pin.now ∷ [])) others.old others.new) }
+    ensures { OnOk result (looked.Joins (looked.strangers liberty.now (pin.now ∷ [])) others.old others.new) }
 {
-    if liberty.get(pin.name.as_bytes()).is_none() {
+    if !liberty.contains(pin.name.as_bytes()) {
         let _ = others.add(alloc, pin)?;
     }
     Ok(())
 }
 
 fn add_others(alloc: Global, others: &PinIndex, found: &mut Vec<Finding>) -> Result<(), NoMemory>
-    ensures found { OnOk result (found.new.items ≡ found.old.items ++ map spec.lacking (indexed.names_in others.now)) }
-    ensures sorted { OnOk result (IsStrictlySortedBy (slice_cmp nat_cmp) (indexed.names_in others.now)) }
+    ensures found { OnOk result (found.new.items ≡ found.old.items ++ map spec.lacking (looked.names_in others.now)) }
+    ensures sorted { OnOk result (IsStrictlySortedBy (slice_cmp nat_cmp) (looked.names_in others.now)) }
 {
     for name in others.roles.keys() {
         push(

@@ -13,7 +13,7 @@ pub(crate) struct PinIndex {
 }
 
 impl PinIndex {
-    ghost use Rattle.pin_tables.specs.Index.{found, Adds, IsIndexOf};
+    ghost use Rattle.pin_tables.specs.Index.{found, Adds};
 
     pub(crate) fn new(alloc: Global) -> PinIndex
         ensures { (q : List ℕ) → found result q ≡ None }
@@ -52,15 +52,5 @@ impl PinIndex {
         let role = Role { direction, kind };
         let _ = self.roles.insert(name.as_bytes().to_vec(alloc)?, role)?;
         Ok(true)
-    }
-
-    pub(crate) fn of(alloc: Global, pins: &[Pin]) -> Result<PinIndex, NoMemory>
-        ensures { IfOk result (IsIndexOf pins.now) }
-    {
-        let mut index = PinIndex::new(alloc);
-        for pin in pins {
-            let _ = index.add(alloc, pin)?;
-        }
-        Ok(index)
     }
 }

@@ -5,6 +5,7 @@ mod absent;
 mod findings;
 mod index;
 pub mod laws;
+mod lookup;
 mod makers;
 mod rule;
 mod table;

@@ -3,8 +3,10 @@ ghost use Rattle.std.specs.Prelude.{◌≡◌, ◌++◌, ◌∷◌, [], IfOk, On
 ghost use Rattle.std.specs.List.{list_any};
 ghost use Rattle.pin_tables.specs.Makers as spec;
 ghost use Rattle.pin_tables.specs.Index.{IsIndexOf};
+ghost use Rattle.pin_tables.specs.Tables.{said_of};
 
 use crate::index::PinIndex;
+use crate::lookup::PinLookup;
 use crate::rule::is_supply;
 use crate::table::{Pin, PinTable};
 use liberty_source::{LibertyCell, LibertyPin};
@@ -24,9 +26,7 @@ pub fn liberty_pins(
     let own = cell.pins.as_slice();
     let mut pins = Vec::new(alloc);
     add_cell_pins(alloc, own, &mut pins)?;
-    if !has_supply(own) {
-        add_supplies(alloc, &names_of(alloc, own)?, supplies, &mut pins)?;
-    }
+    add_lent_supplies(alloc, own, supplies, &mut pins)?;
     Ok(PinTable {
         cell: cell.name.copied(alloc)?,
         pins: Items::from_vec(pins),
@@ -37,7 +37,7 @@ pub fn liberty_pins(
 pub fn module_pins(alloc: Global, module: &Module, liberty: &PinTable) -> Result<PinTable, NoMemory>
     ensures { IfOk result (λ table. table ≡ spec.module_table «module».now liberty.now) }
 {
-    let known = PinIndex::of(alloc, liberty.pins.as_slice())?;
+    let known = PinLookup::of(alloc, liberty.pins.as_slice())?;
     let mut pins = Vec::new(alloc);
     add_ports(alloc, &known, module.ports.as_slice(), &mut pins)?;
     Ok(PinTable {
@@ -98,6 +98,20 @@ fn names_of(alloc: Global, own: &[LibertyPin]) -> Result<PinIndex, NoMemory>
     Ok(names)
 }
 
+fn add_lent_supplies(
+    alloc: Global,
+    own: &[LibertyPin],
+    supplies: &[(Text, PinKind)],
+    pins: &mut Vec<Pin>,
+) -> Result<(), NoMemory>
+    ensures { OnOk result (pins.new.items ≡ pins.old.items ++ spec.lent_supplies own.now supplies.now) }
+{
+    if supplies.is_empty() || has_supply(own) {
+        return Ok(());
+    }
+    add_supplies(alloc, &names_of(alloc, own)?, supplies, pins)
+}
+
 fn add_supplies(
     alloc: Global,
     names: &PinIndex,
@@ -129,11 +143,11 @@ fn add_supply(
 
 fn add_ports(
     alloc: Global,
-    known: &PinIndex,
+    known: &PinLookup<'_>,
     ports: &[Port],
     pins: &mut Vec<Pin>,
 ) -> Result<(), NoMemory>
-    ensures { OnOk result (pins.new.items ≡ pins.old.items ++ map (spec.indexed_port known.now) ports.now) }
+    ensures { OnOk result (pins.new.items ≡ pins.old.items ++ map (spec.port_pin known.now) ports.now) }
 {
     for port in ports {
         let kind = kind_of(known, &port.name);
@@ -142,8 +156,8 @@ fn add_ports(
     Ok(())
 }
 
-fn kind_of(known: &PinIndex, name: &Text) -> PinKind
-    ensures { result ≡ spec.indexed_kind known.now name.now }
+fn kind_of(known: &PinLookup<'_>, name: &Text) -> PinKind
+    ensures { result ≡ spec.kind_or_signal (said_of known.now name.now) }
 {
     match known.get(name.as_bytes()) {
         None => PinKind::Signal,

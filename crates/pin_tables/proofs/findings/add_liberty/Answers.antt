@@ -1,7 +1,7 @@
-use Rattle.std.proofs.Common.{◌≡◌, ◌++◌, [], take, sym, subst, rules}
-use Rattle.std.specs.List.{flat_map}
-use Rattle.pin_tables.specs.Findings.{first_pins}
-use Rattle.pin_tables.specs.Indexed.{IsIndexOf, at_pin}
+use Rattle.std.proofs.Common.{◌++◌, ◌∷◌, [], take, sym, ap, ◌∙◌, rules}
+use Rattle.std.proofs.lemmas.List.{map-append}
+use Rattle.pin_tables.specs.Lookups.{unless_seen}
+use Rattle.pin_tables.specs.Tables.{name_of}
 use Rattle.pin_tables.proofs.Lists.{take_at, liberty_step}
 use Rattle.pin_tables.proofs.findings.add_liberty.Goals as goal
 
@@ -10,7 +10,12 @@ loop-pin-preserved c =
     let pins = c.args.pins.now in
     let i = c.loop-pin.pin-index in
     let p = c.pin-item.result in
-    let x = c.args.indexes.now in
+    let x = c.args.lookups.now in
     let start = c.args.found.now.items in
-    subst (λ ps. IsIndexOf ps c.add_pin.new.seen × (c.add_pin.new.found.items ≡ start ++ flat_map (at_pin x) (first_pins [] ps))) (sym (take_at pins i p (search rules) c.pin-item.is))
-    (liberty_step x (take i pins) p c.loop-pin.seen c.add_pin.new.seen start c.loop-pin.found.items c.add_pin.new.found.items c.loop-pin.invariant.0 c.loop-pin.invariant.1 c.in_ok-add_pin.ensures)
+    let more = take_at pins i p (search rules) c.pin-item.is in
+    let seen = c.loop-pin.invariant.0 in
+    rw more (
+      c.in_ok-add_pin.ensures.seen ∙ ap (λ ns. ns ++ p.name ∷ []) seen ∙ sym (map-append name_of (take i pins) (p ∷ [])),
+      liberty_step x (take i pins) p start c.loop-pin.found.items c.add_pin.new.found.items c.loop-pin.invariant.1
+          (c.in_ok-add_pin.ensures.found ∙ ap (λ ns. c.loop-pin.found.items ++ unless_seen ns x p) seen),
+    )

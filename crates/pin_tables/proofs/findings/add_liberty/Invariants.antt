@@ -1,10 +1,9 @@
-use Rattle.std.proofs.Common.{◌≡◌, take, [], ◌++◌}
-use Rattle.std.specs.List.{flat_map}
-use Rattle.pin_tables.specs.Findings.{first_pins}
-use Rattle.pin_tables.specs.Indexed.{IsIndexOf, at_pin}
+use Rattle.std.proofs.Common.{◌≡◌, map, take, ◌++◌}
+use Rattle.pin_tables.specs.Lookups.{at_first_pins}
+use Rattle.pin_tables.specs.Tables.{name_of}
 use Rattle.pin_tables.proofs.findings.add_liberty.Given as goal
 
 abbrev pub invariant-loop-pin : goal.invariant-loop-pin
 invariant-loop-pin l =
-    IsIndexOf (take l.pin-index l.pins) l.seen
-    × (l.found.items ≡ l.initial.found.items ++ flat_map (at_pin l.indexes) (first_pins [] (take l.pin-index l.pins)))
+    (l.seen ≡ map name_of (take l.pin-index l.pins))
+    × (l.found.items ≡ l.initial.found.items ++ at_first_pins l.lookups (take l.pin-index l.pins))

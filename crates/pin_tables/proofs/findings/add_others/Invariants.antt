@@ -1,6 +1,6 @@
 use Rattle.std.proofs.Common.{◌≡◌, ◌++◌, map}
 use Rattle.pin_tables.specs.Findings.{lacking}
-use Rattle.pin_tables.specs.Indexed.{names_in}
+use Rattle.pin_tables.specs.Lookups.{names_in}
 use Rattle.pin_tables.proofs.findings.add_others.Given as goal
 
 abbrev pub invariant-loop-name : goal.invariant-loop-name

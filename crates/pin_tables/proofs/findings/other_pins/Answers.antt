@@ -1,6 +1,6 @@
 use Rattle.std.proofs.Common.{◌++◌, refl}
 use Rattle.pin_tables.specs.Findings.{pins_of, viewed_pins}
-use Rattle.pin_tables.specs.Indexed.{strangers}
+use Rattle.pin_tables.specs.Lookups.{strangers}
 use Rattle.pin_tables.proofs.Indexes.{joins_empty}
 use Rattle.pin_tables.proofs.Lists.{strangers_join}
 use Rattle.pin_tables.proofs.findings.other_pins.Goals as goal
