@@ -6,20 +6,18 @@ use Rattle.tern_core.specs.declared.tern.Tern.TheVariants.{Zero, One, Unknown}
 use Rattle.liberty_source.specs.declared.CellPart.{CellPart}
 use Rattle.liberty_source.specs.declared.CellPart.TheVariants as cells
 use Rattle.liberty_source.specs.declared.LibertyCell.{LibertyCell}
-use Rattle.liberty_source.specs.declared.LibertyPin.{LibertyPin}
 use Rattle.verilog_source.specs.declared.Source.{Source}
 use Rattle.verilog_source.specs.declared.module.Module.{Module}
 use Rattle.verilog_source.specs.declared.module.ModulePart.{ModulePart}
 use Rattle.verilog_source.specs.declared.module.ModulePart.TheVariants as modules
-use Rattle.verilog_source.specs.declared.primitive.UdpPart.{UdpPart}
 use Rattle.liberty_meaning.specs.declared.behaviour.Behaviour.{Behaviour}
 use Rattle.liberty_meaning.specs.Behaviour.{output_value}
 use Rattle.liberty_meaning.specs.Names.{input_pins, output_pins}
 use Rattle.liberty_meaning.specs.Cell.{Means}
 use Rattle.name_index.specs.Places.{place_of}
 use Rattle.udp_table.specs.Table.{Table}
-use Rattle.gate_settle.specs.Network.{Network, IsSettled, HasOneSettled}
-use Rattle.module_net.specs.Building.{NamedNetwork, IsNetOf}
+use Rattle.gate_settle.specs.Network.{Network, IsSettled}
+use Rattle.module_net.specs.Building.{NamedNetwork}
 use Rattle.verdict_text.specs.declared.finding.Finding.{Finding}
 use Rattle.verdict_text.specs.declared.reason.Reason.{Reason}
 use Rattle.cell_compare.specs.declared.comparison.Comparison.{Comparison}
@@ -31,7 +29,7 @@ use Rattle.cell_compare.specs.declared.tally.Disagreement.{Disagreement}
 use Rattle.cell_compare.specs.Vectors.{vectors_from, vectors, IsVector}
 use Rattle.cell_compare.specs.Rows.{output_at, outputs_of, net_value, values_from, AreRows, is_known, is_same, is_different, disagreement_in, first_disagreement, defined_count}
 use Rattle.cell_compare.specs.Parts.{module_named, udp_name, AreMade, first_reason}
-use Rattle.cell_compare.specs.Pins.{two_views, have_many_pins, compared, input_names, supplies_of}
+use Rattle.cell_compare.specs.Pins.{two_views, have_many_pins, compared}
 use Rattle.cell_compare.specs.Compare as compare
 use Rattle.cell_compare.specs.Compare.{finding_of, AreCompared, IsComparison}
 use Rattle.cell_compare.specs.Equal.{AreEqualAt, IsEqual, IsEqualPart, SaysEqual}

@@ -1,5 +1,5 @@
 -- The steps of a comparison.
-use Rattle.std.proofs.Common.{◌≡◌, ◌<◌, ◌≤◌, ℕ, refl, sym, ◌∙◌, ap, subst, arith, List, [], ◌∷◌, map, length, Option, None, Bool, true, false}
+use Rattle.std.proofs.Common.{◌≡◌, ◌<◌, ◌≤◌, ℕ, refl, sym, ◌∙◌, ap, subst, arith, List, [], ◌∷◌, map, length, Option, None, false}
 use Rattle.tern_core.specs.declared.tern.Tern.{Tern}
 use Rattle.liberty_source.specs.declared.LibertyCell.{LibertyCell}
 use Rattle.verilog_source.specs.declared.module.Module.{Module}

@@ -1,5 +1,5 @@
 -- What compare finds of a cell: the first of these that applies, in this order.
-use Rattle.std.specs.Prelude.{◌≡◌, ◌⊎◌, ℕ, Bool, true, false, ◌||◌, nat_lt, List, [], ◌∷◌, map, length, slice_get, Option, Some, None, codes}
+use Rattle.std.specs.Prelude.{◌≡◌, ℕ, Bool, true, false, ◌||◌, nat_lt, List, [], ◌∷◌, map, length, slice_get, Option, Some, None, codes}
 use Rattle.std.specs.Option.{option_map}
 use Rattle.text_scan.specs.declared.limits.LimitKind.{LimitKind}
 use Rattle.text_scan.specs.declared.limits.LimitKind.TheVariants.{Pins as AllPins, Inputs, Gates}

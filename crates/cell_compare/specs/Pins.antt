@@ -12,7 +12,7 @@ use Rattle.verilog_source.specs.declared.module.Module.{Module}
 use Rattle.pin_tables.specs.declared.table.Pin.{Pin}
 use Rattle.pin_tables.specs.declared.table.PinTable.{PinTable}
 use Rattle.pin_tables.specs.declared.table.FourViews.{FourViews}
-use Rattle.pin_tables.specs.Makers.{liberty_table, module_table}
+use Rattle.pin_tables.specs.Makers.{is_internal, liberty_table, module_table}
 use Rattle.verdict_text.specs.declared.finding.Finding.{Finding}
 use Rattle.verdict_text.specs.declared.finding.Code.{Code}
 use Rattle.verdict_text.specs.declared.finding.Code.TheVariants.{P1}
@@ -90,3 +90,14 @@ supplies_in pins = flat_map supply_of pins
 
 abbrev pub supplies_of : LibertyCell → List (List ℕ × Tern)
 supplies_of cell = supplies_in (pins_of cell).pins
+
+-- the same of the cell's own pins, which need no table
+
+abbrev pub own_value : LibertyPin → Option Tern
+own_value p = if is_internal p.direction then None else supply_value p.kind
+
+abbrev pub own_supply : LibertyPin → List (List ℕ × Tern)
+own_supply p = supply_at p.name (own_value p)
+
+abbrev pub own_supplies : List LibertyPin → List (List ℕ × Tern)
+own_supplies pins = flat_map own_supply pins

@@ -18,7 +18,7 @@ use gate_settle::laws::one_settled;
 use liberty_meaning::{Behaviour, compile};
 use liberty_source::{CellPart, LibertyCell};
 use module_net::{ModuleNet, build, drive_nets};
-use pin_tables::{liberty_pins, pin_findings};
+use pin_tables::pin_findings;
 use std::alloc::Global;
 use text_scan::{LimitKind, NoMemory, Text};
 use verdict_text::{Code, Finding, Mismatch, Reason, View};
@@ -156,8 +156,7 @@ fn over_tables(
         return Ok(Comparison::Refused(reason));
     }
     let inputs = input_names(alloc, cell.pins.as_slice())?;
-    let pins = liberty_pins(alloc, cell, &[])?;
-    let supplies = supplies_of(alloc, pins.pins.as_slice())?;
+    let supplies = supplies_of(alloc, cell.pins.as_slice())?;
     match build(
         alloc,
         module,

@@ -5,7 +5,7 @@ ghost use Rattle.liberty_meaning.specs.Names.{is_direction_input, input_pins};
 ghost use Rattle.cell_compare.specs.Pins as spec;
 
 use liberty_source::{LibertyCell, LibertyPin};
-use pin_tables::{FourViews, Pin, PinTable, liberty_pins, module_pins};
+use pin_tables::{FourViews, PinTable, liberty_pins, module_pins};
 use std::alloc::Global;
 use tern_core::Tern;
 use text_scan::{Direction, Items, NoMemory, PinKind, Text};
@@ -144,13 +144,25 @@ fn supply_value(kind: PinKind) -> Option<Tern>
     }
 }
 
-/// Power at 1 and ground at 0.
-pub(crate) fn supplies_of(alloc: Global, pins: &[Pin]) -> Result<Items<(Text, Tern)>, NoMemory>
-    ensures { IfOk result (λ supplies. supplies ≡ spec.supplies_in pins.now) }
+fn own_value(pin: &LibertyPin) -> Option<Tern>
+    ensures { result ≡ spec.own_value pin.now }
+{
+    match pin.direction {
+        Direction::Internal => None,
+        _ => supply_value(pin.kind),
+    }
+}
+
+/// The cell's power pins at 1 and its ground pins at 0.
+pub(crate) fn supplies_of(
+    alloc: Global,
+    pins: &[LibertyPin],
+) -> Result<Items<(Text, Tern)>, NoMemory>
+    ensures { IfOk result (λ supplies. supplies ≡ spec.own_supplies pins.now) }
 {
     let mut supplies = Items::new(alloc);
     for pin in pins {
-        if let Some(value) = supply_value(pin.kind) {
+        if let Some(value) = own_value(pin) {
             supplies.push((pin.name.copied(alloc)?, value))?;
         }
     }

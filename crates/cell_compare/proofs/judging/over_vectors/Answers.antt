@@ -1,9 +1,8 @@
-use Rattle.std.proofs.Common.{sym, ◌∙◌, ap, subst}
+use Rattle.std.proofs.Common.{◌∙◌, ap, subst}
 use Rattle.std.proofs.lemmas.Result.{IfOk-weaker}
 use Rattle.gate_settle.specs.Network.{HasOneSettled}
 use Rattle.cell_compare.specs.Rows.{outputs_of}
 use Rattle.cell_compare.specs.Compare as spec
-use Rattle.cell_compare.specs.declared.comparison.Comparison.{Comparison}
 use Rattle.cell_compare.proofs.Comparing.{vectors_compared}
 use Rattle.cell_compare.proofs.judging.over_vectors.Goals as goal
 

@@ -1,6 +1,4 @@
-use Rattle.std.proofs.Common.{◌++◌, ◌∷◌, [], take, sym, ◌∙◌, subst, ap}
-use Rattle.cell_compare.specs.Parts.{AreMade, flaw_of, table_of}
-use Rattle.cell_compare.proofs.Making.{more_made, one_more}
+use Rattle.cell_compare.proofs.Making.{one_more}
 use Rattle.cell_compare.proofs.primitives.tables_of.Goals as goal
 
 pub loop-part-preserved : goal.loop-part-preserved
