@@ -4,8 +4,9 @@
     python3 bench/make_cells.py FOLDER COUNT small   inverters, NANDs and NORs in turn
     python3 bench/make_cells.py FOLDER COUNT mixed   functions of 2 to 6 inputs, some 25 vectors each
 
-FOLDER/cells.lib and FOLDER/cells.v are the library and its models, FOLDER/bench.v a testbench that tries each vector of
-each cell, and FOLDER/cells.ys a script that proves each cell by SAT.
+FOLDER/cells.lib and FOLDER/cells.v are the library and its models. FOLDER/looped.v is a testbench with a loop over the
+vectors of each cell, FOLDER/listed.v one that lists each vector with Liberty's value, and FOLDER/cells.ys a script that
+proves each cell by SAT.
 """
 import random
 import sys
@@ -47,40 +48,73 @@ def mixed(k):
     return Cell(f"M{k}", inputs, terms[0][0], terms[0][1], gates)
 
 
+def library_lines(cells):
+    for cell in cells:
+        pins = "".join(f"pin({a}){{direction:input;}}" for a in cell.inputs)
+        yield f'cell({cell.name}){{{pins}pin(Y){{direction:output;function:"{cell.liberty}";}}}}'
+
+
+def model_lines(cells):
+    for cell in cells:
+        names = ",".join(cell.inputs)
+        yield f"module {cell.name}({names},Y);input {names};output Y;{''.join(cell.gates)}endmodule"
+
+
+def instance_lines(cells):
+    for cell in cells:
+        wires = ",".join(f"v_{cell.name}[{i}]" for i in range(len(cell.inputs)))
+        yield f"reg [{len(cell.inputs) - 1}:0] v_{cell.name}; wire y_{cell.name};"
+        yield f"{cell.name} u_{cell.name}({wires},y_{cell.name});"
+
+
+def loops(cells):
+    """For each cell a loop over its vectors, with the function as an expression beside the output."""
+    for cell in cells:
+        expression = cell.expression
+        for i in reversed(range(len(cell.inputs))):
+            expression = expression.replace(cell.inputs[i], f"v_{cell.name}[{i}]")
+        yield (f"for (k = 0; k < {1 << len(cell.inputs)}; k = k + 1) begin v_{cell.name} = k; #1; "
+               f"if (y_{cell.name} !== ({expression})) wrong = wrong + 1; end")
+
+
+def lists(cells):
+    """For each vector of each cell its line, with Liberty's value beside the output."""
+    for cell in cells:
+        for k in range(1 << len(cell.inputs)):
+            value = eval(cell.expression, {a: k >> i & 1 for i, a in enumerate(cell.inputs)}) & 1
+            yield f"v_{cell.name} = {k}; #1; if (y_{cell.name} !== 1'b{value}) wrong = wrong + 1;"
+
+
+def bench_lines(cells, tries):
+    yield from ["module bench;", "integer k, wrong;", "initial wrong = 0;"]
+    yield from instance_lines(cells)
+    yield "initial begin"
+    yield from tries(cells)
+    yield '$display("wrong %0d", wrong); $finish; end'
+    yield "endmodule"
+
+
+def proof_lines(cells):
+    yield "read_liberty cells.lib"
+    yield from (f"rename {cell.name} gold_{cell.name}" for cell in cells)
+    yield "read_verilog cells.v"
+    for cell in cells:
+        yield f"miter -equiv -flatten gold_{cell.name} {cell.name} m_{cell.name}; sat -verify -prove trigger 0 m_{cell.name}"
+
+
 def write(folder, name, lines):
     with open(f"{folder}/{name}", "w") as file:
-        file.write("\n".join(lines) + "\n")
+        file.writelines(f"{line}\n" for line in lines)
 
 
 def main():
     folder, count, kind = sys.argv[1], int(sys.argv[2]), sys.argv[3]
     cells = [(small if kind == "small" else mixed)(k) for k in range(count)]
-    library, models, bench = ["library(cells){"], [], ["module bench;", "integer k, wrong;", "initial wrong = 0;"]
-    proofs = ["read_liberty cells.lib"]
-    starts = []
-    for cell in cells:
-        pins = "".join(f"pin({a}){{direction:input;}}" for a in cell.inputs)
-        library.append(f'cell({cell.name}){{{pins}pin(Y){{direction:output;function:"{cell.liberty}";}}}}')
-        names = ",".join(cell.inputs)
-        models.append(f"module {cell.name}({names},Y);input {names};output Y;{''.join(cell.gates)}endmodule")
-        wires = ",".join(f"v_{cell.name}[{i}]" for i in range(len(cell.inputs)))
-        expression = cell.expression
-        for i in reversed(range(len(cell.inputs))):
-            expression = expression.replace(cell.inputs[i], f"v_{cell.name}[{i}]")
-        bench.append(f"reg [{len(cell.inputs) - 1}:0] v_{cell.name}; wire y_{cell.name};")
-        bench.append(f"{cell.name} u_{cell.name}({wires},y_{cell.name});")
-        starts.append(f"for (k = 0; k < {1 << len(cell.inputs)}; k = k + 1) begin v_{cell.name} = k; #1; "
-                      f"if (y_{cell.name} !== ({expression})) wrong = wrong + 1; end")
-        proofs.append(f"rename {cell.name} gold_{cell.name}")
-    library.append("}")
-    bench += ["initial begin", *starts, '$display("wrong %0d", wrong); $finish; end', "endmodule"]
-    proofs.append("read_verilog cells.v")
-    for cell in cells:
-        proofs.append(f"miter -equiv -flatten gold_{cell.name} {cell.name} m_{cell.name}; sat -verify -prove trigger 0 m_{cell.name}")
-    write(folder, "cells.lib", library)
-    write(folder, "cells.v", models)
-    write(folder, "bench.v", bench)
-    write(folder, "cells.ys", proofs)
+    write(folder, "cells.lib", ["library(cells){", *library_lines(cells), "}"])
+    write(folder, "cells.v", model_lines(cells))
+    write(folder, "looped.v", bench_lines(cells, loops))
+    write(folder, "listed.v", bench_lines(cells, lists))
+    write(folder, "cells.ys", proof_lines(cells))
 
 
 if __name__ == "__main__":
