@@ -2,7 +2,6 @@
 use Rattle.std.specs.Prelude.{◌≡◌, ℕ, suc, List, [], ◌∷◌, map, Bool, true, false, Option, Some, None, Result, Ok, Err}
 use Rattle.text_scan.specs.declared.limits.Limits.{Limits}
 use Rattle.text_scan.specs.declared.refusal.FileRefusal.{FileRefusal}
-use Rattle.text_scan.specs.declared.refusal.FileRefusal.TheVariants as refusals
 use Rattle.circuit.specs.declared.netlist.Transistor.{Transistor}
 use Rattle.grammar.specs.Rule.{seq}
 use Rattle.grammar.specs.Answers.{read_all}

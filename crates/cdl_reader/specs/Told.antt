@@ -1,5 +1,5 @@
 -- What is told of a text.
-use Rattle.std.specs.Prelude.{◌≡◌, ℕ, List, [], ◌∷◌, Result, Ok, Err}
+use Rattle.std.specs.Prelude.{ℕ, List, [], ◌∷◌, Result, Ok, Err}
 use Rattle.text_scan.specs.Tokens.{after, start}
 use Rattle.text_scan.specs.declared.token.Place.{Place}
 use Rattle.text_scan.specs.declared.limits.Limits.{Limits}

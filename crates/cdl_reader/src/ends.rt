@@ -1,6 +1,7 @@
 //! How subcircuits begin and end.
 ghost use Rattle.std.specs.Prelude.{◌≡◌, ◌∷◌, [], IfOk, Option};
 ghost use Rattle.cdl_cards.specs.Left.{card_left, cards_left, word_of};
+ghost use Rattle.cdl_cards.specs.Words.{PlacedWord};
 ghost use Rattle.cdl_reader.specs.Actions as spec;
 ghost use Rattle.cdl_reader.specs.Grammar as grammar;
 ghost use Rattle.cdl_reader.specs.Steps.{IsFault, Unless, is_named};
@@ -122,15 +123,15 @@ impl Parts {
         }
     }
 
-    /// Begins the subcircuit whose first card has these words left, and tells whether it has a name.
+    /// Begins the subcircuit whose first card has these words left behind its first, whatever that is, and tells
+    /// whether it has a name.
     pub fn begin(
         &mut self,
         alloc: Global,
         limits: &Limits,
-        first: Word<'_>,
         cards: &mut Cards<'_>,
     ) -> Result<bool, FileRefusal>
-        ensures begun { Steps result self.new (spec.begin limits.now (word_of first.entry ∷ card_left cards.old) self.old) }
+        ensures begun { (first : PlacedWord) → Steps result self.new (spec.begin limits.now (first ∷ card_left cards.old) self.old) }
         ensures named { IfOk result (λ named. named ≡ is_named (operands (card_left cards.old))) }
         ensures cards { cards_left cards.new ≡ cards_left cards.old }
     {
@@ -160,15 +161,14 @@ impl Parts {
         self.part.enter(alloc, limits, first, cards)
     }
 
-    /// Ends the open subcircuit, whose last card has these words left.
+    /// Ends the open subcircuit, whose last card has these words left behind its first, whatever that is.
     pub fn close(
         &mut self,
         alloc: Global,
         limits: &Limits,
-        first: Word<'_>,
         cards: &mut Cards<'_>,
     ) -> Result<(), FileRefusal>
-        ensures closed { Steps result self.new (spec.close limits.now (word_of first.entry ∷ card_left cards.old) self.old) }
+        ensures closed { (first : PlacedWord) → Steps result self.new (spec.close limits.now (first ∷ card_left cards.old) self.old) }
         ensures cards { cards_left cards.new ≡ cards_left cards.old }
     {
         if let Err(refusal) = check_end(limits, cards) {

@@ -51,7 +51,7 @@ impl Reader {
         ensures cards { cards_left cards.new ≡ cards_left cards.old }
     {
         match kind_of_word(first.bytes) {
-            CardKind::Begin => match self.parts.begin(alloc, limits, first, cards) {
+            CardKind::Begin => match self.parts.begin(alloc, limits, cards) {
                 Err(refusal) => Err(refusal),
                 Ok(named) => {
                     self.phase = if named {
@@ -79,7 +79,7 @@ impl Reader {
     {
         match kind_of_word(first.bytes) {
             CardKind::Begin | CardKind::Stray => Err(at_word(first)),
-            CardKind::End => match self.parts.close(alloc, limits, first, cards) {
+            CardKind::End => match self.parts.close(alloc, limits, cards) {
                 Err(refusal) => Err(refusal),
                 Ok(()) => {
                     self.phase = Phase::Outside;
