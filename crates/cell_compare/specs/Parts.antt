@@ -6,7 +6,7 @@ use Rattle.verilog_source.specs.declared.module.ModulePart.TheVariants as module
 use Rattle.verilog_source.specs.declared.primitive.UdpPart.{UdpPart}
 use Rattle.verilog_source.specs.declared.primitive.UdpPart.TheVariants as primitives
 use Rattle.verilog_source.specs.declared.module.Element.{Element}
-use Rattle.module_net.specs.Elements.{gate_word}
+use Rattle.module_net.specs.Elements.{element_word}
 use Rattle.udp_table.specs.Table.{Table}
 use Rattle.udp_table.specs.Building.{IsBuilt, IsRefused}
 use Rattle.udp_table.specs.declared.refusal.UdpRefusal.{UdpRefusal}
@@ -59,9 +59,9 @@ abbrev pub flaw_at : List (Option Flaw) → Option ℕ → Option Flaw
 flaw_at flaws None = None
 flaw_at flaws (Some k) = flaw_by (slice_get flaws k)
 
--- the flaw of an element's primitive; the words of gates name none
+-- the flaw of an element's primitive; gates name none
 abbrev pub element_flaw : List (List ℕ) → List (Option Flaw) → Element → Option Flaw
-element_flaw names flaws e = if is_some (gate_word e.kind) then None else flaw_at flaws (place_of names e.kind)
+element_flaw names flaws e = if is_some (element_word e) then None else flaw_at flaws (place_of names e.kind)
 
 abbrev pub element_reason : List (List ℕ) → List (Option Flaw) → Element → Option Reason
 element_reason names flaws e = option_map (reason_of e.kind) (element_flaw names flaws e)

@@ -4,7 +4,7 @@ ghost use Rattle.std.specs.Option.{option_copied};
 ghost use Rattle.cell_compare.specs.Parts as spec;
 
 use crate::reasons::{Flaw, flaw_of_refusal};
-use module_net::{Primitives, gate_word};
+use module_net::{Primitives, element_word};
 use name_index::Names;
 use std::alloc::Global;
 use text_scan::{Items, NoMemory, Text};
@@ -121,11 +121,10 @@ impl PrimitiveTables {
     fn element_flaw(&self, element: &Element) -> Option<&Flaw>
         ensures { option_copied result ≡ spec.element_flaw self.now.names self.now.flaws element.now }
     {
-        let kind = element.kind.as_bytes();
-        if gate_word(kind).is_some() {
+        if element_word(element).is_some() {
             None
         } else {
-            self.flaw_at(self.names.place_of(kind))
+            self.flaw_at(self.names.place_of(element.kind.as_bytes()))
         }
     }
 

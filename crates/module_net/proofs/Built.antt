@@ -26,7 +26,7 @@ use Rattle.module_net.specs.declared.word.GateWord.{GateWord}
 use Rattle.module_net.specs.declared.refusal.GateRefusal.{GateRefusal}
 use Rattle.module_net.specs.declared.refusal.GateRefusal.TheVariants.{NoMemory, Loop, TwoDrivers, UnknownUdp, PortCount}
 use Rattle.module_net.specs.Naming.{firsts, terminal_names, element_names, names_in, nets_of, or_zero, place_in}
-use Rattle.module_net.specs.Elements.{gate_word, outputs_by, output_terminals, table_named, port_count, refused_primitive, refused_by, refused_element, or_else, first_refused, holds_state, is_sequential, function_by, driven, next_state_place, gates_from, state_net_by, state_nets_of, is_net, DriveNets, used_in, is_net}
+use Rattle.module_net.specs.Elements.{element_word, outputs_by, output_terminals, table_named, port_count, refused_primitive, refused_by, refused_element, or_else, first_refused, holds_state, is_sequential, function_by, driven, next_state_place, gates_from, state_net_by, state_nets_of, is_net, DriveNets, used_in, is_net}
 use Rattle.module_net.specs.Outside.{given_of}
 use Rattle.module_net.specs.Refusing.{IsNamed}
 use Rattle.module_net.specs.Building.{IsRefused, givens_of, gates_of}
@@ -119,7 +119,7 @@ gates_within tables used nets element state [] k known h = absurd (let f : false
 gates_within tables used nets element state (e ∷ es) k known h =
     let parts = known_parts nets (element_names e) (flat_map element_names es) known in
     elim (either_true (is_among (flat_map (driven nets) (output_terminals e)) k) (is_driven (gates_from tables used nets (element + 1) (next_state_place (holds_state tables e) state) es) k) h) [
-      | inl f ↦ terminals_within nets (outputs_by (gate_word e.kind) (length e.terminals)) e.terminals k (element_known nets e parts.0) f
+      | inl f ↦ terminals_within nets (outputs_by (element_word e) (length e.terminals)) e.terminals k (element_known nets e parts.0) f
       | inr f ↦ gates_within tables used nets (element + 1) (next_state_place (holds_state tables e) state) es k parts.1 f
     ]
 
@@ -148,7 +148,7 @@ both_false false b h k = k
 not_held : (tables : List Table) (used nets : List (List ℕ)) (element state : ℕ) (es : List Element) (k : ℕ) → k < state → is_held (gates_from tables used nets element state es) k ≡ false
 not_held tables used nets element state [] k h = refl
 not_held tables used nets element state (e ∷ es) k h =
-    both_false _ _ (not_held_by (gate_word e.kind) (holds_state tables e) (place_in used e.kind) state k h)
+    both_false _ _ (not_held_by (element_word e) (holds_state tables e) (place_in used e.kind) state k h)
     (not_held tables used nets (element + 1) (next_state_place (holds_state tables e) state) es k (later_place (holds_state tables e) state k h))
 
 both_true : (a b : Bool) → a ≡ true → b ≡ true → (a && b) ≡ true
@@ -171,7 +171,7 @@ counted e true h = refl
 counted e false h = absurd cc
 
 one_state_net : (tables : List Table) (nets : List (List ℕ)) (e : Element) → refused_element tables e ≡ None → list_all is_net (output_terminals e) ≡ true → holds_state tables e ≡ true → length (state_net_by true nets e) ≡ 1
-one_state_net tables nets e r d h = by_word (gate_word e.kind) r d h
+one_state_net tables nets e r d h = by_word (element_word e) r d h
   where
     by_table : (o : Option Table) → refused_primitive o e ≡ None → list_all is_net (take 1 e.terminals) ≡ true → is_sequential o ≡ true → length (flat_map (driven nets) (take 1 e.terminals)) ≡ 1
     by_table None r d h = absurd (let f : false ≡ true = h in cc)
@@ -193,7 +193,7 @@ own_states tables used nets element state count (e ∷ es) r d h =
     let parts = none_first (refused_element tables e) (first_refused tables es) r in
     let len : length (state_net_by (holds_state tables e) nets e ++ state_nets_of tables nets es) ≡ length (state_net_by (holds_state tables e) nets e) + length (state_nets_of tables nets es) = length-append (state_net_by (holds_state tables e) nets e) (state_nets_of tables nets es) in
     both_true _ _
-    (own_by count (gates_from tables used nets (element + 1) (next_state_place (holds_state tables e) state) es) (gate_word e.kind) (holds_state tables e) (place_in used e.kind) state
+    (own_by count (gates_from tables used nets (element + 1) (next_state_place (holds_state tables e) state) es) (element_word e) (holds_state tables e) (place_in used e.kind) state
     (λ s. let one = one_state_net tables nets e parts.0 d.0 s in let same : length (state_net_by (holds_state tables e) nets e) ≡ length (state_net_by true nets e) = ap (λ z. length (state_net_by z nets e)) s in omega arith)
     (λ s. not_held tables used nets (element + 1) (next_state_place (holds_state tables e) state) es state (after (holds_state tables e) s)))
     (own_states tables used nets (element + 1) (next_state_place (holds_state tables e) state) count es parts.1 d.1 (room (holds_state tables e) refl len))

@@ -19,7 +19,7 @@ use Rattle.gate_settle.specs.Settled.{AllHave, AreGatesSettled, state_by, next_s
 use Rattle.name_index.specs.Places.{is_known}
 use Rattle.module_net.specs.declared.word.GateWord.{GateWord}
 use Rattle.module_net.specs.Naming.{firsts, terminal_names, element_names, place_in}
-use Rattle.module_net.specs.Elements.{gate_word, outputs_by, output_terminals, input_terminals, table_named, port_count, refused_primitive, refused_by, refused_element, first_refused, primitive_name, used_in, table_list, tables_of, is_sequential, holds_state, primitive_function, function_by, operand, driven, gate_of, next_state_place, gates_from}
+use Rattle.module_net.specs.Elements.{element_word, outputs_by, output_terminals, input_terminals, table_named, port_count, refused_primitive, refused_by, refused_element, first_refused, primitive_name, used_in, table_list, tables_of, is_sequential, holds_state, primitive_function, function_by, operand, driven, gate_of, next_state_place, gates_from}
 use Rattle.module_net.specs.Meaning.{value_named, terminal_value, input_values, answer_by, element_value, NetsHave, ElementsGive, is_of, is_output, changed_by, HasMoved, StatesMove}
 use Rattle.module_net.proofs.Built.{AllKnown, all_known, known_parts, element_known, none_first, counted}
 use Rattle.module_net.proofs.Named.{stands, same_place}
@@ -46,7 +46,7 @@ found_names : (tables : List Table) (es : List Element) → first_refused tables
 found_names tables [] h = tt
 found_names tables (e ∷ es) h =
     let parts = none_first (refused_element tables e) (first_refused tables es) h in
-    go (gate_word e.kind) parts.0 (found_names tables es parts.1)
+    go (element_word e) parts.0 (found_names tables es parts.1)
   where
     go : (w : Option GateWord) → refused_by w tables e ≡ None → AreFound tables (flat_map primitive_name es) → AreFound tables (cond (is_some w) [] (e.kind ∷ []) ++ flat_map primitive_name es)
     go (Some w) r f = f
@@ -141,8 +141,8 @@ module _ (tables : List Table) (used names : List (List ℕ)) (found : AreFound 
   gate_gives : (nets states : List Tern) (place k : ℕ) (e : Element) → refused_element tables e ≡ None → AllKnown used (primitive_name e)
       → gate_value (tables_of tables used) states nets (gate_of tables used names place k e) ≡ element_value tables names nets (value_at states k) e
   gate_gives nets states place k e r a =
-      ap (function_value (tables_of tables used) states (function_by (gate_word e.kind) (holds_state tables e) (place_in used e.kind) k)) (operands_value names nets (input_terminals e))
-      ∙ value_by states k e (terminal_value names nets) (gate_word e.kind) r a
+      ap (function_value (tables_of tables used) states (function_by (element_word e) (holds_state tables e) (place_in used e.kind) k)) (operands_value names nets (input_terminals e))
+      ∙ value_by states k e (terminal_value names nets) (element_word e) r a
 
   pub elements_give : (nets states : List Tern) (place k : ℕ) (es : List Element) → first_refused tables es ≡ None → AllKnown used (flat_map primitive_name es)
       → AreGatesSettled (tables_of tables used) states nets (gates_from tables used names place k es) → ElementsGive tables names states nets k es
@@ -190,7 +190,7 @@ module _ (tables : List Table) (used names : List (List ℕ)) (found : AreFound 
     next_same : (e : Element) (place k : ℕ) → refused_element tables e ≡ None → AllKnown used (primitive_name e) → holds_state tables e ≡ true
         → next_state (tables_of tables used) (place_in used e.kind) (levels_of old (gate_of tables used names place k e)) (levels_of new (gate_of tables used names place k e)) (value_at old_states k)
         ≡ changed_by (table_named tables e.kind) (input_values names old e) (input_values names new e) (value_at old_states k)
-    next_same e place k r a s = next_by e (gate_word e.kind) k r a s
+    next_same e place k r a s = next_by e (element_word e) k r a s
 
     has_moved : (e : Element) (place k : ℕ) (w : Option GateWord) (s : Bool) → cond (is_some w) false s ≡ s
         → (s ≡ true → next_state (tables_of tables used) (place_in used e.kind) (levels_of old (gate_of tables used names place k e)) (levels_of new (gate_of tables used names place k e)) (value_at old_states k)
@@ -221,7 +221,7 @@ module _ (tables : List Table) (used names : List (List ℕ)) (found : AreFound 
     states_move place k (e ∷ es) r a h =
         let parts = none_first (refused_element tables e) (first_refused tables es) r in
         let known = known_parts used (primitive_name e) (flat_map primitive_name es) a in (
-          has_moved e place k (gate_word e.kind) (holds_state tables e) (no_gate (gate_word e.kind) (is_sequential (table_named tables e.kind))) (next_same e place k parts.0 known.0) h.0,
+          has_moved e place k (element_word e) (holds_state tables e) (no_gate (element_word e) (is_sequential (table_named tables e.kind))) (next_same e place k parts.0 known.0) h.0,
           states_move (place + 1) (next_state_place (holds_state tables e) k) es parts.1 known.1 h.1,
         )
 
@@ -231,7 +231,7 @@ module _ (tables : List Table) (used names : List (List ℕ)) (found : AreFound 
     move_states place k (e ∷ es) r a h =
         let parts = none_first (refused_element tables e) (first_refused tables es) r in
         let known = known_parts used (primitive_name e) (flat_map primitive_name es) a in (
-          moved_has e place k (gate_word e.kind) (holds_state tables e) (next_same e place k parts.0 known.0) h.0,
+          moved_has e place k (element_word e) (holds_state tables e) (next_same e place k parts.0 known.0) h.0,
           move_states (place + 1) (next_state_place (holds_state tables e) k) es parts.1 known.1 h.1,
         )
 
@@ -251,5 +251,5 @@ pub driven_named : (tables : List Table) (used names : List (List ℕ)) (name : 
 driven_named tables used names name place k [] known h = refl
 driven_named tables used names name place k (e ∷ es) known h =
     let parts = known_parts names (element_names e) (flat_map element_names es) known in
-    ap (λ b. b || is_driven (gates_from tables used names (place + 1) (next_state_place (holds_state tables e) k) es) (place_in names name)) (terminals_of names name (outputs_by (gate_word e.kind) (length e.terminals)) e.terminals (element_known names e parts.0) h)
+    ap (λ b. b || is_driven (gates_from tables used names (place + 1) (next_state_place (holds_state tables e) k) es) (place_in names name)) (terminals_of names name (outputs_by (element_word e) (length e.terminals)) e.terminals (element_known names e parts.0) h)
     ∙ ap (λ b. list_any (is_of name) (output_terminals e) || b) (driven_named tables used names name (place + 1) (next_state_place (holds_state tables e) k) es parts.1 h)

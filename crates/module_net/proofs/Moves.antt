@@ -21,7 +21,7 @@ use Rattle.gate_settle.specs.Settled.{AllHave, AreGatesSettled, next_state, IsSt
 use Rattle.gate_settle.specs.Network.{Network, given_value, given_values, IsMoveOf}
 use Rattle.module_net.specs.declared.word.GateWord.{GateWord}
 use Rattle.module_net.specs.Naming.{nets_of, place_in}
-use Rattle.module_net.specs.Elements.{gate_word, outputs_by, output_terminals, table_named, is_sequential, function_by, next_state_place, driven, gates_from, state_net_by, state_nets_of, used_in}
+use Rattle.module_net.specs.Elements.{element_word, outputs_by, output_terminals, table_named, is_sequential, function_by, next_state_place, driven, gates_from, state_net_by, state_nets_of, used_in}
 use Rattle.module_net.specs.Building.{NamedNetwork, IsNetOf, givens_of, gates_of}
 use Rattle.module_net.proofs.Arranged.{some, same_some, is_same, same_value, same_by, either, and_true}
 use Rattle.module_net.proofs.Rounds.{goes_round, within}
@@ -207,7 +207,7 @@ one_at_most names (terminals.Constant v ∷ ts) = omega arith
 held_from : (tables : List Table) (used names : List (List ℕ)) (place k : ℕ) (es : List Element) (j : ℕ) → k ≤ j → j < k + length (state_nets_of tables names es) → is_held (gates_from tables used names place k es) j ≡ true
 held_from tables used names place k [] j low high = absurd (omega arith)
 held_from tables used names place k (e ∷ es) j low high =
-    go (gate_word e.kind) (is_sequential (table_named tables e.kind)) refl high (held_from tables used names (place + 1) k es j low) (held_from tables used names (place + 1) (k + 1) es j)
+    go (element_word e) (is_sequential (table_named tables e.kind)) refl high (held_from tables used names (place + 1) k es j low) (held_from tables used names (place + 1) (k + 1) es j)
   where
     later : (a b : Bool) → b ≡ true → (a || b) ≡ true
     later true b h = refl
@@ -220,7 +220,7 @@ held_from tables used names place k (e ∷ es) j low high =
     eqb_of : (a b : ℕ) → a ≡ b → eqb a b ≡ true
     eqb_of a b e = grind (arith, e)
 
-    go : (w : Option GateWord) (s : Bool) → gate_word e.kind ≡ w → j < k + length (state_net_by (cond (is_some w) false s) names e ++ state_nets_of tables names es)
+    go : (w : Option GateWord) (s : Bool) → element_word e ≡ w → j < k + length (state_net_by (cond (is_some w) false s) names e ++ state_nets_of tables names es)
         → (j < k + length (state_nets_of tables names es) → is_held (gates_from tables used names (place + 1) k es) j ≡ true)
         → (k + 1 ≤ j → j < k + 1 + length (state_nets_of tables names es) → is_held (gates_from tables used names (place + 1) (k + 1) es) j ≡ true)
         → (has_state (function_by w (cond (is_some w) false s) (place_in used e.kind) k) j || is_held (gates_from tables used names (place + 1) (next_state_place (cond (is_some w) false s) k) es) j) ≡ true

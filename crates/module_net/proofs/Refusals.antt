@@ -24,7 +24,7 @@ use Rattle.name_index.proofs.Places.{known_by_place, place_within}
 use Rattle.module_net.specs.declared.refusal.GateRefusal.{GateRefusal}
 use Rattle.module_net.specs.declared.refusal.GateRefusal.TheVariants.{NoMemory, Loop, TwoDrivers, UnknownUdp, PortCount}
 use Rattle.module_net.specs.Naming.{nets_of, names_in, terminal_names, element_names, or_zero, place_in}
-use Rattle.module_net.specs.Elements.{gate_word, outputs_by, input_terminals, output_terminals, holds_state, used_in, operand, driven, gate_of, next_state_place, gates_from}
+use Rattle.module_net.specs.Elements.{element_word, outputs_by, input_terminals, output_terminals, holds_state, used_in, operand, driven, gate_of, next_state_place, gates_from}
 use Rattle.module_net.specs.Outside.{given_of}
 use Rattle.module_net.specs.Building.{NamedNetwork, IsNetOf, IsRefused, givens_of, gates_of}
 use Rattle.module_net.specs.Meaning.{is_of}
@@ -55,7 +55,7 @@ drivers_of tables used names name place k (e ∷ es) known h =
     let parts = known_parts names (element_names e) (flat_map element_names es) known in
     let rest = gates_from tables used names (place + 1) (next_state_place (holds_state tables e) k) es in
     let c = sum_by-cons (λ (g : Gate). times g.outputs (place_in names name)) (gate_of tables used names place k e) rest in
-    let a = times_of names name (outputs_by (gate_word e.kind) (length e.terminals)) e.terminals (element_known names e parts.0) h in
+    let a = times_of names name (outputs_by (element_word e) (length e.terminals)) e.terminals (element_known names e parts.0) h in
     let b = drivers_of tables used names name (place + 1) (next_state_place (holds_state tables e) k) es parts.1 h in
     c ∙ ap (λ (z : ℕ). z + drivers rest (place_in names name)) a ∙ ap (λ (z : ℕ). places_of name (output_terminals e) + z) b
 
@@ -76,7 +76,7 @@ fed_same : (tables : List Table) (used names : List (List ℕ)) (name other : Li
 fed_same tables used names name other place k [] known h i = refl
 fed_same tables used names name other place k (e ∷ es) known h i =
     let parts = known_parts names (element_names e) (flat_map element_names es) known in
-    let count = outputs_by (gate_word e.kind) (length e.terminals) in
+    let count = outputs_by (element_word e) (length e.terminals) in
     let rest = is_fed_by (gates_from tables used names (place + 1) (next_state_place (holds_state tables e) k) es) (place_in names name) (place_in names other) in
     ap (λ b. b && is_input (map (operand names) (input_terminals e)) (place_in names other) || rest) (terminals_of names name count e.terminals (element_known names e parts.0) h)
     ∙ ap (λ b. list_any (is_of name) (output_terminals e) && b || rest) (inputs_of names other count e.terminals (element_known names e parts.0) i)
@@ -102,7 +102,7 @@ fed_named tables used names place state a b [] known h = absurd cc
 fed_named tables used names place state a b (e ∷ es) known h =
     let parts = known_parts names (element_names e) (flat_map element_names es) known in
     elim (either (is_among (flat_map (driven names) (output_terminals e)) a && is_input (map (operand names) (input_terminals e)) b) _ h) [
-      | inl f ↦ input_named names (outputs_by (gate_word e.kind) (length e.terminals)) e.terminals b (element_known names e parts.0) (both _ _ f).1
+      | inl f ↦ input_named names (outputs_by (element_word e) (length e.terminals)) e.terminals b (element_known names e parts.0) (both _ _ f).1
       | inr f ↦ fed_named tables used names (place + 1) (next_state_place (holds_state tables e) state) a b es parts.1 f
     ]
 
@@ -121,7 +121,7 @@ fed_known names name other [] known h = absurd cc
 fed_known names name other (e ∷ es) known h =
     let parts = known_parts names (element_names e) (flat_map element_names es) known in
     elim (either (list_any (is_of name) (output_terminals e) && list_any (is_of other) (input_terminals e)) _ h) [
-      | inl f ↦ among_known names other (outputs_by (gate_word e.kind) (length e.terminals)) e.terminals (element_known names e parts.0) (both _ _ f).1
+      | inl f ↦ among_known names other (outputs_by (element_word e) (length e.terminals)) e.terminals (element_known names e parts.0) (both _ _ f).1
       | inr f ↦ fed_known names name other es parts.1 f
     ]
 

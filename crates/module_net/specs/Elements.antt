@@ -38,16 +38,20 @@ gate_word w =
     if bytes_eq w (codes "not") then Some (one_input true) else
     None
 
+-- the gate that an element is; the name of a primitive is no gate, whatever its letters
+unfoldable pub element_word : Element → Option GateWord
+element_word e = if e.is_gate then gate_word e.kind else None
+
 -- how many of so many terminals are outputs, which come first
 abbrev pub outputs_by : Option GateWord → ℕ → ℕ
 outputs_by None n = 1
 outputs_by (Some w) n = if w.many_outputs then n - 1 else 1
 
 abbrev pub output_terminals : Element → List Terminal
-output_terminals e = take (outputs_by (gate_word e.kind) (length e.terminals)) e.terminals
+output_terminals e = take (outputs_by (element_word e) (length e.terminals)) e.terminals
 
 abbrev pub input_terminals : Element → List Terminal
-input_terminals e = drop (outputs_by (gate_word e.kind) (length e.terminals)) e.terminals
+input_terminals e = drop (outputs_by (element_word e) (length e.terminals)) e.terminals
 
 -- the primitive of this name
 abbrev pub table_named : List Table → List ℕ → Option Table
@@ -68,7 +72,7 @@ refused_by (Some w) tables e = port_count (nat_lt 1 (length e.terminals)) e
 refused_by None tables e = refused_primitive (table_named tables e.kind) e
 
 abbrev pub refused_element : List Table → Element → Option GateRefusal
-refused_element tables e = refused_by (gate_word e.kind) tables e
+refused_element tables e = refused_by (element_word e) tables e
 
 abbrev pub or_else : Option GateRefusal → Option GateRefusal → Option GateRefusal
 or_else (Some r) other = Some r
@@ -83,7 +87,7 @@ first_refused tables (e ∷ elements) = or_else (refused_element tables e) (firs
 
 -- the primitives that elements name, where the words of gates are none
 abbrev pub primitive_name : Element → List (List ℕ)
-primitive_name e = if is_some (gate_word e.kind) then [] else e.kind ∷ []
+primitive_name e = if is_some (element_word e) then [] else e.kind ∷ []
 
 abbrev pub used_in : List Element → List (List ℕ)
 used_in elements = firsts [] (flat_map primitive_name elements)
@@ -102,7 +106,7 @@ is_sequential (Some t) = t.sequential
 
 -- the element holds a state
 abbrev pub holds_state : List Table → Element → Bool
-holds_state tables e = if is_some (gate_word e.kind) then false else is_sequential (table_named tables e.kind)
+holds_state tables e = if is_some (element_word e) then false else is_sequential (table_named tables e.kind)
 
 abbrev pub primitive_function : Bool → ℕ → ℕ → Function
 primitive_function true table state = State table state
@@ -125,7 +129,7 @@ driven nets (terminals.Constant v) = []
 abbrev pub gate_of : List Table → List (List ℕ) → List (List ℕ) → ℕ → ℕ → Element → Gate
 gate_of tables used nets element state e = record {
   element = element;
-  function = function_by (gate_word e.kind) (holds_state tables e) (place_in used e.kind) state;
+  function = function_by (element_word e) (holds_state tables e) (place_in used e.kind) state;
   inputs = map (operand nets) (input_terminals e);
   outputs = flat_map (driven nets) (output_terminals e);
 }

@@ -17,7 +17,7 @@ use Rattle.gate_settle.specs.Network.{given_value}
 use Rattle.name_index.specs.Places.{is_known}
 use Rattle.module_net.specs.declared.word.GateWord.{GateWord}
 use Rattle.module_net.specs.Naming.{nets_of, place_in}
-use Rattle.module_net.specs.Elements.{gate_word, table_named, holds_state, next_state_place, input_terminals, output_terminals}
+use Rattle.module_net.specs.Elements.{element_word, table_named, holds_state, next_state_place, input_terminals, output_terminals}
 use Rattle.module_net.specs.Outside.{given_of}
 
 -- the value of the net of this name, where the nets have these names and values
@@ -39,7 +39,7 @@ answer_by None None state levels = Unknown
 
 -- what an element gives, where its inputs have their nets' values and its state, if it holds one, has this value
 abbrev pub element_value : List Table → List (List ℕ) → List Tern → Tern → Element → Tern
-element_value tables names nets state e = answer_by (gate_word e.kind) (table_named tables e.kind) state (input_values names nets e)
+element_value tables names nets state e = answer_by (element_word e) (table_named tables e.kind) state (input_values names nets e)
 
 -- each net among these terminals has the value
 abbrev pub NetsHave : List (List ℕ) → List Tern → Tern → List Terminal → Type 0

@@ -8,7 +8,7 @@ ghost use Rattle.module_net.specs.Refusing.{Tells};
 use crate::name_list::{add, place_in};
 use crate::primitives::Primitives;
 use crate::refusal::GateRefusal;
-use crate::word::{gate_word, outputs_by};
+use crate::word::{element_word, outputs_by};
 use gate_settle::{Function, Gate, Operand};
 use name_index::Names;
 use std::alloc::Global;
@@ -38,7 +38,7 @@ fn check_element(
     ensures err { IfErr result (Tells (spec.refused_element primitives.now element.now)) }
 {
     let terminals = element.terminals.len();
-    if gate_word(element.kind.as_bytes()).is_some() {
+    if element_word(element).is_some() {
         return port_count(alloc, 1 < terminals, element);
     }
     match primitives.get(element.kind.as_bytes()) {
@@ -67,7 +67,7 @@ pub fn check_elements(
 fn add_primitive(alloc: Global, used: &mut Names, element: &Element) -> Result<(), NoMemory>
     ensures { OnOk result (used.new ≡ used.old ++ firsts used.old (spec.primitive_name element.now)) }
 {
-    if gate_word(element.kind.as_bytes()).is_some() {
+    if element_word(element).is_some() {
         return Ok(());
     }
     add(alloc, used, element.kind.as_bytes())
@@ -167,7 +167,7 @@ pub fn output_terminals(element: &Element) -> &[Terminal]
     ensures { result.now ≡ spec.output_terminals element.now }
 {
     let terminals = element.terminals.as_slice();
-    let count = outputs_by(gate_word(element.kind.as_bytes()), terminals.len());
+    let count = outputs_by(element_word(element), terminals.len());
     if terminals.len() < count {
         return terminals;
     }
@@ -178,7 +178,7 @@ fn input_terminals(element: &Element) -> &[Terminal]
     ensures { result.now ≡ spec.input_terminals element.now }
 {
     let terminals = element.terminals.as_slice();
-    let count = outputs_by(gate_word(element.kind.as_bytes()), terminals.len());
+    let count = outputs_by(element_word(element), terminals.len());
     if terminals.len() < count {
         return &[];
     }
@@ -189,7 +189,7 @@ fn input_terminals(element: &Element) -> &[Terminal]
 pub fn holds_state(primitives: &Primitives, element: &Element) -> bool
     ensures { result ≡ spec.holds_state primitives.now element.now }
 {
-    if gate_word(element.kind.as_bytes()).is_some() {
+    if element_word(element).is_some() {
         return false;
     }
     match primitives.get(element.kind.as_bytes()) {
@@ -199,9 +199,9 @@ pub fn holds_state(primitives: &Primitives, element: &Element) -> bool
 }
 
 fn function(sequential: bool, used: &Names, state: usize, element: &Element) -> Function
-    ensures { result ≡ spec.function_by (spec.gate_word element.now.kind) sequential (place_in used.now element.now.kind) state }
+    ensures { result ≡ spec.function_by (spec.element_word element.now) sequential (place_in used.now element.now.kind) state }
 {
-    if let Some(word) = gate_word(element.kind.as_bytes()) {
+    if let Some(word) = element_word(element) {
         return Function::Logic {
             fold: word.fold,
             inverted: word.inverted,

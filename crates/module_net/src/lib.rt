@@ -18,7 +18,7 @@ pub use elements::drive_nets;
 pub use net::ModuleNet;
 pub use primitives::Primitives;
 pub use refusal::GateRefusal;
-pub use word::{GateWord, gate_word};
+pub use word::{GateWord, element_word, gate_word};
 
 #[cfg(test)]
 mod tests;

@@ -17,6 +17,7 @@ fn element(alloc: Global, kind: &[u8]) -> Result<Element, Fail> {
     terminals.push(net(alloc, b"A")?)?;
     Ok(Element {
         kind: Text::from_bytes(alloc, kind)?,
+        is_gate: gate_word(kind).is_some(),
         label: Text::from_bytes(alloc, b"g")?,
         terminals,
     })

@@ -3,6 +3,7 @@ ghost use Rattle.std.specs.Prelude.{◌≡◌, Some};
 ghost use Rattle.module_net.specs.Elements as spec;
 
 use gate_settle::Fold;
+use verilog_source::Element;
 
 /// What the word of a gate says (IEEE 1364-2005, 7.2 and 7.3).
 #[derive(Clone, Copy, Debug)]
@@ -54,6 +55,18 @@ pub fn gate_word(word: &[u8]) -> Option<GateWord>
         one_input(false)
     } else if word == b"not".as_slice() {
         one_input(true)
+    } else {
+        None
+    }
+}
+
+/// The gate that the element is, if it is one.
+#[tactic(auto, unfolding(crate::specs::Elements::element_word))]
+pub fn element_word(element: &Element) -> Option<GateWord>
+    ensures { result ≡ spec.element_word element.now }
+{
+    if element.is_gate {
+        gate_word(element.kind.as_bytes())
     } else {
         None
     }

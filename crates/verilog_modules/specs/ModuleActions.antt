@@ -1,5 +1,5 @@
 -- What the items of a module leave.
-use Rattle.std.specs.Prelude.{ℕ, if◌then◌else◌, List, [], ◌∷◌, ◌++◌, Option, Some, None, Result, Ok, Err}
+use Rattle.std.specs.Prelude.{Bool, true, false, ℕ, if◌then◌else◌, List, [], ◌∷◌, ◌++◌, Option, Some, None, Result, Ok, Err}
 use Rattle.text_scan.specs.declared.pins.Direction.{Direction}
 use Rattle.text_scan.specs.declared.pins.Direction.TheVariants as directions
 use Rattle.text_scan.specs.declared.limits.Limits.{Limits}
@@ -36,6 +36,7 @@ no_module = record {
   direction = directions.Absent;
   declared = declares.Net;
   kind = [];
+  is_gate = false;
   label = [];
   terminals = [];
 }
@@ -78,8 +79,9 @@ declare (declares.Port d) name s = declare_port d name s
 declare declares.Net name s = Ok s
 declare (declares.Supply v) name s = declare_supply v name s
 
-abbrev pub set_kind : List ℕ → ModuleText → ModuleOutcome
-set_kind kind s = Ok (record s { kind = kind })
+-- a gate's word, or the name of a primitive, which may be an escaped identifier of the same letters
+abbrev pub set_kind : Bool → List ℕ → ModuleText → ModuleOutcome
+set_kind is_gate kind s = Ok (record s { kind = kind; is_gate = is_gate })
 
 abbrev pub set_label : List ℕ → ModuleText → ModuleOutcome
 set_label name s = Ok (record s { label = name })
@@ -95,7 +97,7 @@ abbrev pub add_constant : Look → ModuleText → ModuleOutcome
 add_constant l s = Ok (record s { terminals = s.terminals ++ terminals.Constant (constant_of l) ∷ [] })
 
 abbrev pub end_instance : ModuleText → ModuleOutcome
-end_instance s = Ok (record s { elements = s.elements ++ record { kind = s.kind; label = s.label; terminals = s.terminals } ∷ []; label = []; terminals = [] })
+end_instance s = Ok (record s { elements = s.elements ++ record { kind = s.kind; is_gate = s.is_gate; label = s.label; terminals = s.terminals } ∷ []; label = []; terminals = [] })
 
 abbrev pub unless_undirected : ModuleText → Option (List ℕ) → ModuleOutcome
 unless_undirected s None = Ok s
@@ -109,7 +111,7 @@ end_module s = unless_undirected s (undirected s.ports)
 unfoldable pub add_name : ModuleAction → Left → List ℕ → ModuleText → ModuleOutcome
 add_name actions.AddPort t name s = add_port t name s
 add_name actions.Declare t name s = declare s.declared name s
-add_name actions.BeginPrimitive t name s = set_kind name s
+add_name actions.BeginPrimitive t name s = set_kind false name s
 add_name actions.Label t name s = set_label name s
 add_name actions.AddOutput t name s = add_output name s
 add_name actions.AddNet t name s = add_terminal name s
@@ -123,7 +125,7 @@ unfoldable pub perform : List ℕ → Limits → ModuleAction → Left → Modul
 perform source limits actions.Keep t s = Ok s
 perform source limits actions.Direct t s = Ok (record s { direction = direction_of (look_of source t) })
 perform source limits actions.BeginDeclaration t s = Ok (record s { declared = declared_of (look_of source t) })
-perform source limits actions.BeginGate t s = set_kind (text source t.token) s
+perform source limits actions.BeginGate t s = set_kind true (text source t.token) s
 perform source limits actions.AddConstant t s = add_constant (look_of source t) s
 perform source limits actions.EndInstance t s = end_instance s
 perform source limits actions.EndModule t s = end_module s

@@ -61,6 +61,7 @@ impl ModuleText {
             direction: Direction::Absent,
             declared: Declared::Net,
             kind: Text::from_vec(Vec::new(alloc)),
+            is_gate: false,
             label: Text::from_vec(Vec::new(alloc)),
             terminals: Items::new(alloc),
         }
@@ -107,10 +108,11 @@ impl ModuleText {
         }
     }
 
-    fn set_kind(&mut self, alloc: Global, kind: &[u8]) -> Result<(), Halt>
-        ensures { Does result self.new (spec.set_kind kind.now self.old) }
+    fn set_kind(&mut self, alloc: Global, is_gate: bool, kind: &[u8]) -> Result<(), Halt>
+        ensures { Does result self.new (spec.set_kind is_gate kind.now self.old) }
     {
         self.kind = Text::from_bytes(alloc, kind)?;
+        self.is_gate = is_gate;
         Ok(())
     }
 
@@ -152,6 +154,7 @@ impl ModuleText {
         let terminals = mem::replace(&mut self.terminals, Items::new(alloc));
         self.elements.push(Element {
             kind,
+            is_gate: self.is_gate,
             label,
             terminals,
         })?;
@@ -181,7 +184,7 @@ impl ModuleText {
         match action {
             ModuleAction::AddPort => self.add_port(alloc, item, name),
             ModuleAction::Declare => self.declare(alloc, name),
-            ModuleAction::BeginPrimitive => self.set_kind(alloc, name),
+            ModuleAction::BeginPrimitive => self.set_kind(alloc, false, name),
             ModuleAction::Label => self.set_label(alloc, name),
             ModuleAction::AddOutput => self.add_output(alloc, name),
             ModuleAction::AddNet => self.add_terminal(alloc, name),
@@ -232,7 +235,7 @@ impl ModuleText {
                 self.declared = declared_of(look_of(source, item));
                 Ok(())
             }
-            ModuleAction::BeginGate => self.set_kind(alloc, text(source, item.token)),
+            ModuleAction::BeginGate => self.set_kind(alloc, true, text(source, item.token)),
             ModuleAction::AddConstant => self.add_constant(look_of(source, item)),
             ModuleAction::EndInstance => self.end_instance(alloc),
             ModuleAction::EndModule => self.end_module(alloc),

@@ -25,8 +25,9 @@ pub struct ModuleText {
     pub direction: Direction,
     /// What the declaration that is read says.
     pub declared: Declared,
-    /// The instance that is read: its gate or primitive, its label, its terminals.
+    /// The instance that is read: its gate or primitive, whether it is a gate, its label, its terminals.
     pub kind: Text,
+    pub is_gate: bool,
     pub label: Text,
     pub terminals: Items<Terminal>,
 }

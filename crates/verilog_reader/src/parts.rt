@@ -21,6 +21,7 @@ fn module_of(name: Text, text: ModuleText) -> Module
         direction: _,
         declared: _,
         kind: _,
+        is_gate: _,
         label: _,
         terminals: _,
     } = text;

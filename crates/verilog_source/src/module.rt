@@ -35,6 +35,9 @@ pub struct Port {
 pub struct Element {
     /// The gate's word, or the primitive's name.
     pub kind: Text,
+    /// Whether `kind` is a gate's word. An escaped identifier is none, whatever its letters (3.7.2), and names a
+    /// primitive.
+    pub is_gate: bool,
     /// The instance's name, or where it has none its first terminal's.
     pub label: Text,
     /// The terminals in their order, the output first.

@@ -12,6 +12,7 @@ fn a_source_holds_its_parts(rt: HostRuntime) -> Result<(), Fail> {
     let mut elements = Items::new(alloc);
     elements.push(Element {
         kind: Text::from_bytes(alloc, b"buf")?,
+        is_gate: true,
         label: Text::from_bytes(alloc, b"y")?,
         terminals,
     })?;
