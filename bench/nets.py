@@ -116,14 +116,15 @@ class Element:
     def __init__(self, head, tail):
         self.text = f"{head}({tail};"
         words = head.split()
-        self.kind = words[0].lstrip("\\")
+        # An escaped identifier is no gate's word (IEEE 1364-2005, 3.7.2).
+        self.kind, self.is_gate = words[0].lstrip("\\"), words[0] in GATES
         self.terminals = [t.strip() for t in tail.rstrip(")").split(",")]
         self.label = words[1] if len(words) > 1 else self.terminals[0]
-        count = len(self.terminals) - 1 if self.kind in ("buf", "not") else 1
+        count = len(self.terminals) - 1 if self.is_gate and self.kind in ("buf", "not") else 1
         self.outputs, self.sources = self.terminals[:count], self.terminals[count:]
 
     def holds_state(self):
-        return self.kind not in GATES and self.kind in PRIMITIVES and PRIMITIVES[self.kind].sequential
+        return not self.is_gate and self.kind in PRIMITIVES and PRIMITIVES[self.kind].sequential
 
 
 class Case:
@@ -151,7 +152,7 @@ class Case:
     def refusal(self):
         for e in self.module.elements:
             wanted = len(e.terminals) > 1
-            if e.kind not in GATES:
+            if not e.is_gate:
                 if e.kind not in PRIMITIVES:
                     return f"refused: unknown primitive {e.kind}"
                 wanted = len(e.terminals) == len(PRIMITIVES[e.kind].inputs) + 1
@@ -184,7 +185,7 @@ class Case:
             return self.outside(net, pins) or "X"
 
         def given_by(e):
-            if e.kind in GATES:
+            if e.is_gate:
                 return gate(e.kind, [value(s) for s in e.sources])
             if not e.holds_state():
                 return PRIMITIVES[e.kind].level([value(s) for s in e.sources])
