@@ -1,5 +1,5 @@
 -- What the status says of the cells.
-use Rattle.std.proofs.Common.{◌≡◌, ◌⊎◌, inl, inr, ◌&&◌, ◌==◌, ◌+◌, ℕ, List, [], ◌∷◌, Option, Some, None, Result, Ok, Err, IsSome, Bool, true, false, if◌then◌else◌, eqb-true, eq-eqb, refl, sym, ◌∙◌, ap, subst, arith, rules}
+use Rattle.std.proofs.Common.{◌≡◌, ◌⊎◌, inl, inr, ◌&&◌, ◌==◌, ◌+◌, ℕ, List, [], ◌∷◌, Option, Some, None, Ok, Err, Bool, true, false, if◌then◌else◌, eqb-true, eq-eqb, refl, sym, ◌∙◌, ap, subst, arith, rules}
 use Rattle.liberty_source.specs.declared.Library.{Library}
 use Rattle.liberty_source.specs.declared.CellPart.{CellPart}
 use Rattle.verilog_source.specs.declared.Source.{Source}

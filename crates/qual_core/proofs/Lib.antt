@@ -5,3 +5,4 @@ pub mod Replying
 pub mod Ends
 pub mod OneOutcome
 pub mod Judging
+pub mod Driving

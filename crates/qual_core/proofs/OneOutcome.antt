@@ -12,8 +12,6 @@ use Rattle.liberty_reader.proofs.Public as liberty
 use Rattle.verilog_source.specs.declared.Source.{Source}
 use Rattle.verilog_reader.proofs.Public as verilog
 use Rattle.file_rules.specs.Told.{Agrees}
-use Rattle.compare_text.specs.declared.report.CompareReport.{CompareReport}
-use Rattle.compare_text.specs.Text.{IsReport}
 use Rattle.compare_text.proofs.OneReport.{one_report}
 use Rattle.qual_core.specs.Command.{command_of, name_beside}
 use Rattle.qual_core.specs.Files.{IsLibrary, IsSource, IsLibraryRead, IsSourceRead, too_long, refused as refused_by}

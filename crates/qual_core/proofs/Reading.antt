@@ -16,9 +16,8 @@ use Rattle.liberty_reader.specs.Cells.{library as library_of}
 use Rattle.verilog_reader.specs.File.{FileAnswer, IsSource as IsSourceAnswer}
 use Rattle.verilog_reader.specs.Promise.{told as source_told}
 use Rattle.text_scan.specs.Limits.{standard}
-use Rattle.qual_core.specs.Files.{IsLibrary, IsSource, IsLibraryRead, IsSourceRead}
-use Rattle.qual_core.specs.Top.{IsLibraryOf, IsSourceOf}
-use Rattle.qual_core.specs.declared.command.FileOption.TheVariants.{Liberty, Verilog}
+use Rattle.qual_core.specs.Files.{IsLibrary, IsSource, IsLibraryRead}
+use Rattle.qual_core.specs.declared.command.FileOption.TheVariants.{Liberty}
 
 -- an answer other than want of memory
 abbrev pub IsToldResult : {X : Type 0} → Result X FileRefusal → Type 0

@@ -1,22 +1,19 @@
 -- How the reply is put together.
-use Rattle.std.proofs.Common.{◌≡◌, ◌&&◌, ◌==◌, ℕ, List, ◌∷◌, Option, Some, None, Result, Ok, Err, IfOk, IsSome, Bool, true, false, if◌then◌else◌, refl, sym, ◌∙◌, ap, subst, rules}
+use Rattle.std.proofs.Common.{◌≡◌, ◌&&◌, ◌==◌, ℕ, List, Option, Some, None, Result, Ok, Err, IfOk, true, false, if◌then◌else◌, refl, sym, ap, subst, rules}
 use Rattle.liberty_source.specs.declared.Library.{Library}
 use Rattle.verilog_source.specs.declared.Source.{Source}
-use Rattle.compare_text.specs.declared.report.CompareReport.{CompareReport}
 use Rattle.compare_text.specs.declared.report.Totals.{Totals}
-use Rattle.compare_text.specs.Text.{IsReport}
 use Rattle.compare_text.specs.Blocks.{SaysEqualTruly}
 use Rattle.qual_core.specs.Files.{IsLibraryRead, IsSourceRead}
 use Rattle.qual_core.specs.Command.{command_of, name_beside}
-use Rattle.qual_core.specs.Outcome.{usage, refused, totals_status, report_reply, IsCompared, IsSecondReply, verilog_refused, compared, IsFirstReply, liberty_refused, liberty_read, IsCompareReply, IsReplyOf, IsReplyTo, IsOutcome}
-use Rattle.qual_core.specs.Top.{IsOnly, IsLibraryOf, IsSourceOf, IsRefusal, AreBothRead, AreAccepted, IsDoneOrFaulty, SpeaksTruly, IsCompareAnswer, IsAnswerTo}
+use Rattle.qual_core.specs.Outcome.{usage, refused, totals_status, IsCompared, IsSecondReply, verilog_refused, compared, IsFirstReply, liberty_refused, liberty_read, IsCompareReply, IsReplyOf, IsOutcome}
+use Rattle.qual_core.specs.Top.{IsOnly, IsLibraryOf, IsSourceOf, IsDoneOrFaulty, IsCompareAnswer, IsAnswerTo}
 use Rattle.qual_core.specs.declared.command.Command.{Command}
 use Rattle.qual_core.specs.declared.command.CommandName.{CommandName}
 use Rattle.qual_core.specs.declared.command.CommandName.TheVariants.{Compare}
 use Rattle.qual_core.specs.declared.command.FileOption.TheVariants.{Liberty, Verilog}
 use Rattle.qual_core.specs.declared.files.Failure.{Failure}
 use Rattle.qual_core.specs.declared.reply.Reply.{Reply}
-use Rattle.qual_core.specs.declared.reply.Status.{Status}
 use Rattle.qual_core.specs.declared.reply.Status.TheVariants.{Done, Faulty, FileRefused}
 use Rattle.qual_core.proofs.OneOutcome.{one_outcome}
 

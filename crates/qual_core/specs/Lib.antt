@@ -3,3 +3,4 @@ pub mod Command
 pub mod Files
 pub mod Outcome
 pub mod Top
+pub mod Driving

@@ -1,5 +1,5 @@
 -- What a run answers, writes and asks for.
-use Rattle.std.specs.Prelude.{◌≡◌, ◌≤◌, ◌<◌, ◌+◌, ◌++◌, ◌⊎◌, ℕ, max, List, [], ◌∷◌, Option, Some, None, Bool, if◌then◌else◌, IsTrue, IsSome, IsSomeAnd, Vec, length, Result, Ok, Err}
+use Rattle.std.specs.Prelude.{◌≡◌, ◌≤◌, ◌<◌, ◌+◌, ◌++◌, ◌⊎◌, ℕ, max, List, [], ◌∷◌, Option, Some, None, Bool, if◌then◌else◌, IsTrue, IsSome, IsSomeAnd, Vec, length, Result, Ok}
 use Rattle.std.specs.declared.alloc.Global.{Global}
 use Rattle.desk_ports.specs.Faults.{Rose}
 use Rattle.desk_ports.specs.Sink.{AppendsPart}

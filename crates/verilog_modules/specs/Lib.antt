@@ -5,3 +5,4 @@ pub mod ModuleGrammar
 pub mod ModuleMoves
 pub mod ModuleBounds
 pub mod ModuleToCome
+pub mod Driving

@@ -3,7 +3,6 @@ use Rattle.std.specs.Prelude.{Bool, true, false, ℕ, if◌then◌else◌, List,
 use Rattle.text_scan.specs.declared.pins.Direction.{Direction}
 use Rattle.text_scan.specs.declared.pins.Direction.TheVariants as directions
 use Rattle.text_scan.specs.declared.limits.Limits.{Limits}
-use Rattle.text_scan.specs.declared.limits.LimitKind.TheVariants as limit_kinds
 use Rattle.tern_core.specs.declared.tern.Tern.{Tern}
 use Rattle.tern_core.specs.declared.tern.Tern.TheVariants as terns
 use Rattle.name_index.specs.Places.{is_known}
@@ -21,7 +20,6 @@ use Rattle.verilog_modules.specs.declared.module_phase.ModuleAction.{ModuleActio
 use Rattle.verilog_modules.specs.declared.module_phase.ModuleAction.TheVariants as actions
 use Rattle.verilog_looks.specs.Looks.{text, look_of}
 use Rattle.verilog_looks.specs.Names.{content, named}
-use Rattle.file_rules.specs.Names.{is_name, is_too_long}
 use Rattle.verilog_modules.specs.Ports.{names_of, directed, undirected}
 
 abbrev pub ModuleOutcome : Type 0

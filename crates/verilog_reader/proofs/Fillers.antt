@@ -1,5 +1,5 @@
 -- Fillers in what a reader passes over.
-use Rattle.std.proofs.Common.{◌≡◌, ℕ, zero, suc, ◌+◌, ◌<◌, ◌≤◌, ◌==◌, Bool, true, false, not, ◌&&◌, ◌||◌, cond, List, [], ◌∷◌, ◌++◌, map, length, Ok, refl, sym, ap, subst, ◌∙◌, arith, length-append}
+use Rattle.std.proofs.Common.{◌≡◌, ℕ, suc, ◌≤◌, ◌==◌, Bool, true, false, not, ◌&&◌, ◌||◌, cond, List, [], ◌∷◌, ◌++◌, map, length, Ok, refl, sym, ap, subst, ◌∙◌, arith, length-append}
 use Rattle.std.specs.Prelude.{nat_le, codes}
 use Rattle.std.specs.List.{list_all}
 use Rattle.std.specs.Str.{bytes_eq}
@@ -12,7 +12,7 @@ use Rattle.text_scan.specs.Bytes.{begins_with, begins_with_pair}
 use Rattle.text_scan.specs.Left.{is_end}
 use Rattle.verilog_directives.specs.declared.left.Left.{Left}
 use Rattle.verilog_directives.specs.declared.left.Role.TheVariants.{Plain}
-use Rattle.verilog_directives.specs.Left.{item, is_last, followed}
+use Rattle.verilog_directives.specs.Left.{item, followed}
 use Rattle.verilog_directives.specs.Signs.{text as token_text, is_sign}
 use Rattle.verilog_directives.specs.Skims.{begins_end, is_filler_text, is_filler}
 use Rattle.verilog_looks.specs.declared.look.Look.{Look}
@@ -26,7 +26,7 @@ use Rattle.verilog_modules.specs.ModuleMoves as modules
 use Rattle.verilog_reader.specs.declared.file_phase.FilePhase.{FilePhase}
 use Rattle.verilog_reader.specs.declared.file_phase.FilePhase.TheVariants as phases
 use Rattle.verilog_reader.specs.declared.file_reader.FileReader.{FileReader}
-use Rattle.verilog_reader.specs.FileSteps.{Stepped, rest_step, file_taken, in_module, is_done}
+use Rattle.verilog_reader.specs.FileSteps.{rest_step, file_taken, in_module, is_done}
 use Rattle.verilog_reader.specs.Skimming.{passes_over, IsSkimmed}
 use Rattle.verilog_reader.proofs.Whole.{Holds, goes_on, measure}
 

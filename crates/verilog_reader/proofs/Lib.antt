@@ -7,3 +7,4 @@ pub mod Counts
 pub mod Whole
 pub mod Public
 pub mod Fillers
+pub mod Driving

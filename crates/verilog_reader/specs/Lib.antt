@@ -6,3 +6,4 @@ pub mod FileSteps
 pub mod Promise
 pub mod Bounds
 pub mod Skimming
+pub mod Driving

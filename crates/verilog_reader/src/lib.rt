@@ -7,6 +7,7 @@ mod file_phase;
 mod file_reader;
 mod file_steps;
 mod file_text;
+pub mod laws;
 mod parts;
 mod public_call;
 mod reading;

@@ -1,9 +1,7 @@
-use Rattle.std.proofs.Common.{◌≡◌, List, sym, subst, ap, ◌∙◌, ◌<◌, ◌≤◌, ◌+◌, ◌^◌, length, arith}
-use Rattle.verilog_directives.specs.declared.left.Left.{Left}
+use Rattle.std.proofs.Common.{sym, ◌∙◌, ◌<◌, ◌+◌, ◌^◌, length, arith}
 use Rattle.verilog_directives.specs.Directives.{source, left}
-use Rattle.verilog_reader.specs.Skimming.{IsSkimmed}
 use Rattle.verilog_reader.proofs.Fillers.{skimmed_at, skimmed_measure}
-use Rattle.verilog_reader.proofs.Whole.{Holds, at_start, bounded, goes_on, smaller, no_memory, told_err, whole, measure}
+use Rattle.verilog_reader.proofs.Whole.{at_start, bounded, goes_on, smaller, no_memory, told_err, whole, measure}
 use Rattle.verilog_reader.proofs.reading.read_file.Goals as goal
 
 pub items-init : goal.items-init
