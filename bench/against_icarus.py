@@ -20,6 +20,15 @@ GATES = ["and", "or", "nand", "nor", "xor", "xnor"]
 DELAYS = ["", "", "", "#1", "#(1,2)"]
 
 
+LEVELS = {"?": "01x", "b": "01"}
+
+
+def conflict(row, other):
+    """Whether both rows match somewhere and give different values."""
+    meet = all(set(LEVELS.get(a, a)) & set(LEVELS.get(b, b)) for a, b in zip(row[0], other[0]))
+    return meet and row[1] != other[1]
+
+
 class Text:
     """A source text of primitives and modules, drawn by a seed."""
 
@@ -32,14 +41,21 @@ class Text:
 
     def primitive(self, name, inputs):
         ports = [f"i{k}" for k in range(inputs)]
-        rows = [" ".join(v) + f" : {self.dice.choice('01')} ;" for v in itertools.product("01", repeat=inputs) if self.dice.random() < 0.9]
-        if self.dice.random() < 0.3 or not rows:
-            rows.append("x " * inputs + f": {self.dice.choice('01x')} ;")
+        rows = []
+        for symbols in itertools.chain(self.wide_rows(inputs), itertools.product("01", repeat=inputs)):
+            row = (symbols, self.dice.choice("01010101x"))
+            if not any(conflict(row, other) for other in rows):
+                rows.append(row)
+        rows = [f"{' '.join(symbols)} : {value} ;" for symbols, value in rows]
         if self.dice.random() < 0.5:
             head = f"primitive {name}(output q, {', '.join('input ' + p for p in ports)});"
         else:
             head = f"primitive {name}(q, {', '.join(ports)}); output q; input {', '.join(ports)};"
         return "\n".join([head, "table", *rows, "endtable", "endprimitive"])
+
+    def wide_rows(self, inputs):
+        """Some rows that stand for several vectors."""
+        return [tuple(self.dice.choice("01x?b") for _ in range(inputs)) for _ in range(self.dice.randrange(3))]
 
     def written(self, net):
         return self.dice.choice([net, net, net, f"\\{net} "])
