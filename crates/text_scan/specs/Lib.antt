@@ -4,5 +4,6 @@ pub mod Tokens
 pub mod Jumps
 pub mod Left
 pub mod Limits
+pub mod Refusals
 pub mod Firm
 pub mod Moved

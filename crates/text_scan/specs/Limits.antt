@@ -2,7 +2,7 @@
 use Rattle.std.specs.Prelude.{ℕ, List, codes}
 use Rattle.text_scan.specs.declared.limits.Limits.{Limits}
 use Rattle.text_scan.specs.declared.limits.LimitKind.{LimitKind}
-use Rattle.text_scan.specs.declared.limits.LimitKind.TheVariants.{Inputs, Gates, Transistors, Nodes, Rows, Pins, UdpInputs, Cells, Name, Nesting, Records}
+use Rattle.text_scan.specs.declared.limits.LimitKind.TheVariants.{Inputs, Gates, Transistors, Nodes, Rows, Pins, UdpInputs, Cells, Name, Nesting, Records, Rects}
 
 abbrev pub standard : Limits
 standard = record { file = 134217728; cells = 4096; nesting = 32; name = 128; records = 65536 }
@@ -19,3 +19,4 @@ word_of Cells = codes "cells"
 word_of Name = codes "name"
 word_of Nesting = codes "nesting"
 word_of Records = codes "records"
+word_of Rects = codes "rects"

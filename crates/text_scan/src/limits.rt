@@ -47,6 +47,8 @@ pub enum LimitKind {
     Name,
     Nesting,
     Records,
+    /// Rectangles of a macro's ports.
+    Rects,
 }
 
 impl LimitKind {
@@ -66,6 +68,7 @@ impl LimitKind {
             LimitKind::Name => "name",
             LimitKind::Nesting => "nesting",
             LimitKind::Records => "records",
+            LimitKind::Rects => "rects",
         }
     }
 }

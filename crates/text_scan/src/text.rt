@@ -53,6 +53,11 @@ impl Text {
 
 /// A byte prints as the character of its number, so names, which are ASCII, print as they are.
 impl fmt::Display for Text {
+    ghost use Rattle.std.specs.Prelude.{Some};
+    ghost use Rattle.text_scan.specs.Refusals.{printed};
+
+    ghost output = { λ text. Some (printed text) };
+
     fn fmt<W: fmt::Write>(&self, f: &mut fmt::Formatter<W>) -> fmt::Result {
         for byte in self.as_bytes() {
             write!(f, "{}", char::from(*byte))?;
