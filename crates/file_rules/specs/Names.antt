@@ -1,7 +1,7 @@
 -- Which texts are names, and the words by which refused constructs are shown.
-use Rattle.std.specs.Prelude.{ℕ, Bool, true, false, ◌==◌, ◌&&◌, ◌||◌, nat_le, nat_lt, if◌then◌else◌, List, [], ◌∷◌, length, codes}
+use Rattle.std.specs.Prelude.{ℕ, Bool, true, false, not, ◌==◌, ◌&&◌, ◌||◌, nat_le, nat_lt, if◌then◌else◌, List, [], ◌∷◌, length, codes}
 use Rattle.std.specs.Str.{bytes_eq}
-use Rattle.std.specs.List.{list_all}
+use Rattle.std.specs.List.{list_all, list_any}
 use Rattle.text_scan.specs.declared.limits.Limits.{Limits}
 
 -- ( ) { } ; , " = ' \
@@ -24,6 +24,15 @@ is_name bs = nat_lt 0 (length bs) && (has_name_bytes bs && (if is_mark bs then f
 
 abbrev pub is_too_long : Limits → List ℕ → Bool
 is_too_long limits name = nat_lt limits.name (length name)
+
+-- a name that the limit allows
+abbrev pub is_name_within : Limits → List ℕ → Bool
+is_name_within limits name = is_name name && nat_le (length name) limits.name
+
+-- no name stands twice
+abbrev pub is_distinct : List (List ℕ) → Bool
+is_distinct [] = true
+is_distinct (name ∷ names) = not (list_any (bytes_eq name) names) && is_distinct names
 
 abbrev pub is_graphic : ℕ → Bool
 is_graphic b = nat_le 33 b && nat_le b 126
