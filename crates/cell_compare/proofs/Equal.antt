@@ -17,7 +17,10 @@ use Rattle.liberty_meaning.specs.Cell.{Means}
 use Rattle.name_index.specs.Places.{place_of}
 use Rattle.udp_table.specs.Table.{Table}
 use Rattle.gate_settle.specs.Network.{Network, IsSettled}
-use Rattle.module_net.specs.Building.{NamedNetwork}
+use Rattle.module_net.specs.Building.{NamedNetwork, IsNetOf}
+use Rattle.module_net.proofs.Agreeing.{settled_agrees}
+use Rattle.module_net.proofs.Refusals.{accepted_agrees}
+use Rattle.liberty_source.specs.declared.LibertyPin.{LibertyPin}
 use Rattle.verdict_text.specs.declared.finding.Finding.{Finding}
 use Rattle.verdict_text.specs.declared.reason.Reason.{Reason}
 use Rattle.cell_compare.specs.declared.comparison.Comparison.{Comparison}
@@ -29,7 +32,7 @@ use Rattle.cell_compare.specs.declared.tally.Disagreement.{Disagreement}
 use Rattle.cell_compare.specs.Vectors.{vectors_from, vectors, IsVector}
 use Rattle.cell_compare.specs.Rows.{output_at, outputs_of, net_value, values_from, AreRows, is_known, is_same, is_different, disagreement_in, first_disagreement, defined_count}
 use Rattle.cell_compare.specs.Parts.{module_named, udp_name, AreMade, first_reason}
-use Rattle.cell_compare.specs.Pins.{two_views, have_many_pins, compared}
+use Rattle.cell_compare.specs.Pins.{two_views, have_many_pins, compared, input_names, supplies_of}
 use Rattle.cell_compare.specs.Compare as compare
 use Rattle.cell_compare.specs.Compare.{finding_of, AreCompared, IsComparison}
 use Rattle.cell_compare.specs.Equal.{AreEqualAt, IsEqual, IsEqualPart, SaysEqual}
@@ -159,8 +162,26 @@ none_differs b cell net c a s =
 from_zero : (k : ℕ) → 0 + k ≡ k
 from_zero k = omega arith
 
+-- the same by the network that the module makes
+record AreEqualIn (cell : LibertyCell) (b : Behaviour) (net : NamedNetwork) (pins : List Tern) : Type 0 where
+  pub nets : List Tern
+  pub settled : IsSettled net.network pins [] nets
+  pub each : (nets : List Tern) → IsSettled net.network pins [] nets → (k : ℕ) (p : LibertyPin) → slice_get (output_pins cell.pins) k ≡ Some p
+      → is_known (output_value b k pins []) ≡ true → net_value nets (place_of net.names p.name) ≡ output_value b k pins []
+
+by_names : (cell : LibertyCell) (b : Behaviour) (m : Module) (tables : List Table) (net : NamedNetwork) → IsNetOf m tables (input_names cell) (supplies_of cell) net
+    → (pins : List Tern) → AreEqualIn cell b net pins → AreEqualAt cell b m tables pins
+by_names cell b m tables net is pins a =
+    let both = settled_agrees m tables (input_names cell) (supplies_of cell) net is pins [] in
+    record {
+      nets = a.nets;
+      settled = (both a.nets).0 a.settled;
+      each = λ nets settled k p e known.
+          subst (λ (names : List (List ℕ)). net_value nets (place_of names p.name) ≡ output_value b k pins []) is.names (a.each nets ((both nets).1 settled) k p e known);
+    }
+
 agree : (b : Behaviour) (cell : LibertyCell) (net : NamedNetwork) (c : Comparison) → AreCompared b cell net c → SaysEqual c
-    → (pins : List Tern) → IsVector (length (input_pins cell.pins)) pins → AreEqualAt cell b net pins
+    → (pins : List Tern) → IsVector (length (input_pins cell.pins)) pins → AreEqualIn cell b net pins
 agree b cell net c a s pins v =
     let outputs = outputs_of net.names cell.pins in
     let r = row_for b net.network outputs (vectors (length (input_pins cell.pins))) a.rows 1 pins a.each (none_differs b cell net c a s) (vector_is_in (length (input_pins cell.pins)) [] pins v) in
@@ -197,9 +218,8 @@ module _ (cell : LibertyCell) (source : Source) (c : Comparison) (s : SaysEqual 
     flaws = flaws;
     tables = tables;
     made = made;
-    net = net;
-    is_net = is;
-    agree = agree b cell net c y s;
+    accepted = accepted_agrees m tables (input_names cell) (supplies_of cell) net is;
+    agree = λ pins v. by_names cell b m tables net is pins (agree b cell net c y s pins v);
   })
 
   over_reason : (o : Option Reason) {P R : Type 0} → compare.IsOverReason o P c → (P → R) → R

@@ -9,3 +9,7 @@ pub mod OneReason
 pub mod OneTable
 pub mod OneNetwork
 pub mod OneComparison
+pub mod Graphic
+pub mod MeaningTexts
+pub mod FindingTexts
+pub mod Telling

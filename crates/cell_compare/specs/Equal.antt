@@ -14,8 +14,9 @@ use Rattle.liberty_meaning.specs.Names.{input_pins, output_pins}
 use Rattle.liberty_meaning.specs.Cell.{Means}
 use Rattle.name_index.specs.Places.{place_of}
 use Rattle.udp_table.specs.Table.{Table}
-use Rattle.gate_settle.specs.Network.{IsSettled}
-use Rattle.module_net.specs.Building.{NamedNetwork, IsNetOf}
+use Rattle.module_net.specs.Naming.{nets_of}
+use Rattle.module_net.specs.Driving.{IsAcceptedModule}
+use Rattle.module_net.specs.Meaning.{IsSettledModule}
 use Rattle.cell_compare.specs.declared.reasons.Flaw.{Flaw}
 use Rattle.cell_compare.specs.declared.comparison.Comparison.{Comparison}
 use Rattle.cell_compare.specs.declared.comparison.Comparison.TheVariants.{Vectors}
@@ -24,14 +25,23 @@ use Rattle.cell_compare.specs.Rows.{is_known, net_value}
 use Rattle.cell_compare.specs.Parts.{module_named, AreMade}
 use Rattle.cell_compare.specs.Pins.{input_names, supplies_of}
 
--- At each vector there is a settled assignment, and in every one each output that Liberty defines has Liberty's value.
-pub record AreEqualAt (cell : LibertyCell) (b : Behaviour) (net : NamedNetwork) (pins : List Tern) : Type 0 where
-  pub nets : List Tern
-  pub settled : IsSettled net.network pins [] nets
-  pub each : (nets : List Tern) → IsSettled net.network pins [] nets → (k : ℕ) (p : LibertyPin) → slice_get (output_pins cell.pins) k ≡ Some p
-      → is_known (output_value b k pins []) ≡ true → net_value nets (place_of net.names p.name) ≡ output_value b k pins []
+-- the value of the module's net of this name, X where it has none
+abbrev pub net_named : Module → List Tern → List ℕ → Tern
+net_named m nets name = net_value nets (place_of (nets_of m) name)
 
--- The cell means something, its module is read and makes a network, and both agree at every vector of 0 and 1.
+-- the module's nets have settled so at these values of the cell's input pins
+abbrev pub HaveSettled : LibertyCell → Module → List Table → List Tern → List Tern → Type 0
+HaveSettled cell m tables pins nets = IsSettledModule m tables (input_names cell) (supplies_of cell) pins [] nets
+
+-- At a vector the module's nets settle, and however they settle, each output that Liberty defines has Liberty's value.
+pub record AreEqualAt (cell : LibertyCell) (b : Behaviour) (m : Module) (tables : List Table) (pins : List Tern) : Type 0 where
+  pub nets : List Tern
+  pub settled : HaveSettled cell m tables pins nets
+  pub each : (nets : List Tern) → HaveSettled cell m tables pins nets → (k : ℕ) (p : LibertyPin) → slice_get (output_pins cell.pins) k ≡ Some p
+      → is_known (output_value b k pins []) ≡ true → net_named m nets p.name ≡ output_value b k pins []
+
+-- The cell means something, the module of its name is read, no element of it is refused, no net gets a value twice and
+-- none depends on itself, and both agree at every vector of 0 and 1.
 pub record IsEqual (cell : LibertyCell) (source : Source) : Type 0 where
   pub m : Module
   pub is_model : module_named source.modules cell.name ≡ Some (modules.Whole m)
@@ -40,9 +50,8 @@ pub record IsEqual (cell : LibertyCell) (source : Source) : Type 0 where
   pub flaws : List (Option Flaw)
   pub tables : List Table
   pub made : AreMade source.primitives flaws tables
-  pub net : NamedNetwork
-  pub is_net : IsNetOf m tables (input_names cell) (supplies_of cell) net
-  pub agree : (pins : List Tern) → IsVector (length (input_pins cell.pins)) pins → AreEqualAt cell behaviour net pins
+  pub accepted : IsAcceptedModule m tables (input_names cell) (supplies_of cell)
+  pub agree : (pins : List Tern) → IsVector (length (input_pins cell.pins)) pins → AreEqualAt cell behaviour m tables pins
 
 abbrev pub IsEqualPart : CellPart → Source → Type 0
 IsEqualPart (cells.Whole cell) source = IsEqual cell source

@@ -5,3 +5,4 @@ pub mod Pins
 pub mod Reasons
 pub mod Compare
 pub mod Equal
+pub mod Telling

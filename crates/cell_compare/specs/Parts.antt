@@ -6,6 +6,7 @@ use Rattle.verilog_source.specs.declared.module.ModulePart.TheVariants as module
 use Rattle.verilog_source.specs.declared.primitive.UdpPart.{UdpPart}
 use Rattle.verilog_source.specs.declared.primitive.UdpPart.TheVariants as primitives
 use Rattle.verilog_source.specs.declared.module.Element.{Element}
+pub use Rattle.verilog_source.specs.Source.{module_name, udp_name}
 use Rattle.module_net.specs.Elements.{element_word}
 use Rattle.udp_table.specs.Table.{Table}
 use Rattle.udp_table.specs.Building.{IsBuilt, IsRefused}
@@ -19,10 +20,6 @@ use Rattle.cell_compare.specs.declared.primitives.Made.{Made}
 use Rattle.cell_compare.specs.declared.primitives.Made.TheVariants as made
 use Rattle.cell_compare.specs.declared.primitives.PrimitiveTables.{PrimitiveTables}
 
-abbrev pub module_name : ModulePart → List ℕ
-module_name (modules.Whole m) = m.name
-module_name (modules.Refused name construct line) = name
-
 abbrev pub part_at : List ModulePart → Option ℕ → Option ModulePart
 part_at parts None = None
 part_at parts (Some k) = slice_get parts k
@@ -30,10 +27,6 @@ part_at parts (Some k) = slice_get parts k
 -- the module of this name
 abbrev pub module_named : List ModulePart → List ℕ → Option ModulePart
 module_named parts name = part_at parts (place_of (map module_name parts) name)
-
-abbrev pub udp_name : UdpPart → List ℕ
-udp_name (primitives.Whole u) = u.name
-udp_name (primitives.Refused name construct line) = name
 
 -- a primitive that was refused as it was read, or one whose table can't be built
 abbrev pub IsPartFlawed : UdpPart → Flaw → Type 0

@@ -9,7 +9,8 @@ use Rattle.compare_text.specs.declared.verdict.CompareVerdict.TheVariants.{Equal
 use Rattle.liberty_source.specs.declared.Library.{Library}
 use Rattle.compare_text.specs.declared.report.Totals.{Totals}
 use Rattle.compare_text.specs.declared.report.CompareReport.{CompareReport}
-use Rattle.compare_text.specs.Text.{verdict_of, block, cell_name, line, blocks, with_verdict, no_cells, totals_of, total_words, AreComparisons, IsReport}
+use Rattle.compare_text.specs.Text.{verdict_of, block, line, blocks, with_verdict, no_cells, totals_of, total_words, AreComparisons, IsReport}
+use Rattle.liberty_source.specs.Library.{cell_name}
 
 either_order : (v w : CompareVerdict) (t : Totals) → with_verdict v (with_verdict w t) ≡ with_verdict w (with_verdict v t)
 either_order Equal Equal t = refl

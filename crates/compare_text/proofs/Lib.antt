@@ -1,3 +1,4 @@
 pub mod Growing
 pub mod Saying
 pub mod OneReport
+pub mod Lines

@@ -1,83 +1,386 @@
--- What a block says by its last line.
-use Rattle.std.proofs.Common.{◌≡◌, ◌≢◌, ℕ, zero, suc, ◌+◌, refl, sym, ◌∙◌, ap, subst, arith, List, [], ◌∷◌, ◌++◌, append_assoc, length, length-append, get_or, codes, slice_get, Option, Some, None, rules}
+-- What a report says of cells is so.
+use Rattle.std.proofs.Common.{◌≡◌, ℕ, zero, suc, ◌+◌, refl, sym, ◌∙◌, ap, subst, arith, List, [], ◌∷◌, ◌++◌, append_assoc, append-nil, map, length, Option, Some, None, Bool, true, false, ◌&&◌, codes, decimal, slice_get}
+use Rattle.std.specs.List.{flat_map, list_all}
+use Rattle.tern_core.specs.declared.tern.Tern.{Tern}
+use Rattle.tern_core.specs.declared.tern.Tern.TheVariants.{Zero, One, Unknown}
+use Rattle.tern_core.specs.Values.{symbol_of}
+use Rattle.text_scan.specs.declared.limits.Limits.{Limits}
+use Rattle.text_scan.specs.declared.limits.LimitKind.{LimitKind}
+use Rattle.text_scan.specs.declared.limits.LimitKind.TheVariants as kinds
+use Rattle.text_scan.specs.Limits.{word_of}
+use Rattle.file_rules.specs.Names.{are_graphic}
+use Rattle.file_rules.specs.Kept.{both_true}
 use Rattle.liberty_source.specs.declared.Library.{Library}
 use Rattle.liberty_source.specs.declared.CellPart.{CellPart}
+use Rattle.liberty_source.specs.declared.CellPart.TheVariants as cells
+use Rattle.liberty_source.specs.Library.{cell_name, is_part, IsLibrary}
 use Rattle.verilog_source.specs.declared.Source.{Source}
+use Rattle.verilog_source.specs.Source.{IsSource}
+use Rattle.verdict_text.specs.Words.{view_word, code_word}
+use Rattle.verdict_text.specs.Lines.{change_word, pin_word, any_change_word, row_words, values_words, any_mismatch_words, mismatch_words, waived_words, finding_words, step_words, moving_words, reason_words, finding_line, reason_line}
+use Rattle.verdict_text.specs.declared.finding.View.{View}
+use Rattle.verdict_text.specs.declared.finding.View.TheVariants as views
+use Rattle.verdict_text.specs.declared.finding.Code.{Code}
+use Rattle.verdict_text.specs.declared.finding.Code.TheVariants as codes_of
+use Rattle.verdict_text.specs.declared.finding.Change.{Change}
+use Rattle.verdict_text.specs.declared.finding.Mismatch.{Mismatch}
 use Rattle.verdict_text.specs.declared.finding.Finding.{Finding}
+use Rattle.verdict_text.specs.declared.reason.Reason.{Reason}
+use Rattle.verdict_text.specs.declared.reason.Reason.TheVariants.{Construct, UnknownName, BadFunction, BadStateRow, UdpRow, UdpRows, Loop, TwoDrivers, UnknownUdp, PortCount, UnknownModel, SupplyShort, Limit, NoTable, EmptyTable, TableShape, RowNotAtRest, NotClosed, Moving}
 use Rattle.cell_compare.specs.declared.comparison.Comparison.{Comparison}
 use Rattle.cell_compare.specs.declared.comparison.Comparison.TheVariants.{Refused, Pins, Vectors}
 use Rattle.cell_compare.specs.Compare.{IsComparison}
 use Rattle.cell_compare.specs.Equal.{SaysEqual, IsEqualPart}
+use Rattle.cell_compare.proofs.Graphic.{all_parts, all_joined, within_graphic}
+use Rattle.cell_compare.specs.Telling.{change_texts, mismatch_texts, pin_texts, finding_texts, reason_texts, told_texts, AreGraphic}
 use Rattle.compare_text.specs.declared.report.CompareReport.{CompareReport}
-use Rattle.compare_text.specs.Text.{line, block, found_lines, verdict_of, verdict_word, cell_name, blocks, compare_text, total_words, totals_of, AreComparisons, IsReport}
-use Rattle.compare_text.specs.Blocks.{joined, EndsIn, IsBlockOf, AreBlocks, SaysEqualTruly}
+use Rattle.compare_text.specs.Text.{line, first_lines, block, found_lines, verdict_of, verdict_word, blocks, compare_text, total_words, totals_of, AreComparisons, IsReport}
+use Rattle.compare_text.specs.Said.{SaidCell, lines_of, behind, first_behind, said_by, cells_said}
+use Rattle.compare_text.specs.Blocks.{cells_compared, IsSaidTruly, SaysEqualTruly}
+use Rattle.compare_text.proofs.Lines.{is_line, is_quiet, one_line, many_lines, joined_line, graphic_line, decimal_line, quiet_first, quiet_said, front_lines, said_gone_on}
 
-at_end : (xs zs : List ℕ) (a : ℕ) → get_or (xs ++ a ∷ zs) (length xs) 0 ≡ a
-at_end [] zs a = refl
-at_end (x ∷ xs) zs a = at_end xs zs a
+-- ---- words have no line end
 
--- two texts that are equal have the same byte before the last
-same_end : (xs ys : List ℕ) (a b : ℕ) → xs ++ a ∷ 10 ∷ [] ≡ ys ++ b ∷ 10 ∷ [] → a ≡ b
-same_end xs ys a b e =
-    let n = length-append xs (a ∷ 10 ∷ []) in
-    let m = length-append ys (b ∷ 10 ∷ []) in
-    let l = ap (λ (zs : List ℕ). length zs) e in
-    let long : length xs ≡ length ys = omega arith in
-    sym (at_end xs (10 ∷ []) a) ∙ ap (λ zs. get_or zs (length xs) 0) e ∙ ap (λ k. get_or (ys ++ b ∷ 10 ∷ []) k 0) long ∙ at_end ys (10 ∷ []) b
+view_line : (v : View) → is_line (view_word v) ≡ true
+view_line views.Liberty = refl
+view_line views.Verilog = refl
+view_line views.Cdl = refl
+view_line views.Lef = refl
 
--- a block that ends in another verdict
-other_end : (front rest block : List ℕ) (b : ℕ) → block ≡ front ++ (rest ++ b ∷ 10 ∷ []) → (108 ≡ b → ⊥) → EndsIn block (codes "verdict equal") → ⊥
-other_end front rest block b e ne h =
-    let f : h.0 ++ (codes "verdict equa" ++ 108 ∷ 10 ∷ []) ≡ front ++ (rest ++ b ∷ 10 ∷ []) = sym h.1 ∙ e in
-    ne (same_end (h.0 ++ codes "verdict equa") (front ++ rest) 108 b (append_assoc h.0 (codes "verdict equa") (108 ∷ 10 ∷ []) ∙ f ∙ sym (append_assoc front rest (b ∷ 10 ∷ []))))
+code_line : (c : Code) → is_line (code_word c) ≡ true
+code_line codes_of.P1 = refl
+code_line codes_of.P2 = refl
+code_line codes_of.P3 = refl
+code_line codes_of.P4 = refl
+code_line codes_of.H1 = refl
+code_line codes_of.H2 = refl
+code_line codes_of.H3 = refl
+code_line codes_of.M1 = refl
+code_line codes_of.M2 = refl
 
-parted : (name : List ℕ) (c : Comparison) → block name c ≡ (line (codes "compare " ++ name) ++ found_lines c) ++ line (codes "verdict " ++ verdict_word (verdict_of c))
-parted name c = refl
+symbol_line : (t : Tern) → is_line (symbol_of t ∷ []) ≡ true
+symbol_line Zero = refl
+symbol_line One = refl
+symbol_line Unknown = refl
 
-pub says_equal : (name : List ℕ) (c : Comparison) → EndsIn (block name c) (codes "verdict equal") → SaysEqual c
-says_equal name (Refused r) h = absurd (other_end (line (codes "compare " ++ name) ++ found_lines (Refused r)) (codes "verdict refuse") (block name (Refused r)) 100 (parted name (Refused r)) (λ e. omega arith) h)
-says_equal name (Pins found) h = absurd (other_end (line (codes "compare " ++ name) ++ found_lines (Pins found)) (codes "verdict differ") (block name (Pins found)) 115 (parted name (Pins found)) (λ e. omega arith) h)
-says_equal name (Vectors n d None) h = tt
-says_equal name (Vectors n d (Some f)) h = absurd (other_end (line (codes "compare " ++ name) ++ found_lines (Vectors n d (Some f))) (codes "verdict differ") (block name (Vectors n d (Some f))) 115 (parted name (Vectors n d (Some f))) (λ e. omega arith) h)
+kind_line : (k : LimitKind) → is_line (word_of k) ≡ true
+kind_line kinds.Inputs = refl
+kind_line kinds.Gates = refl
+kind_line kinds.Transistors = refl
+kind_line kinds.Nodes = refl
+kind_line kinds.Rows = refl
+kind_line kinds.Pins = refl
+kind_line kinds.UdpInputs = refl
+kind_line kinds.Cells = refl
+kind_line kinds.Name = refl
+kind_line kinds.Nesting = refl
+kind_line kinds.Records = refl
+kind_line kinds.Rects = refl
 
-abbrev block_list : List CellPart → List Comparison → List (List ℕ)
-block_list [] cs = []
-block_list (p ∷ parts) [] = []
-block_list (p ∷ parts) (c ∷ cs) = block (cell_name p) c ∷ block_list parts cs
+text_line : (text : List ℕ) (rest : List (List ℕ)) → AreGraphic (text ∷ rest) → is_line text ≡ true
+text_line text rest h = graphic_line text (both_true _ _ h).0
 
-joined_list : (parts : List CellPart) (cs : List Comparison) → blocks parts cs ≡ joined (block_list parts cs)
-joined_list [] cs = refl
-joined_list (p ∷ parts) [] = refl
-joined_list (p ∷ parts) (c ∷ cs) = ap (λ text. block (cell_name p) c ++ text) (joined_list parts cs)
+change_line : (c : Change) (rest : List (List ℕ)) → AreGraphic (c.pin ∷ rest) → is_line (change_word c) ≡ true
+change_line c rest h = joined_line (c.pin ++ codes "=") (symbol_of c.value ∷ []) (joined_line c.pin (codes "=") (text_line c.pin rest h) refl) (symbol_line c.value)
 
-are_blocks : (parts : List CellPart) (source : Source) (cs : List Comparison) → AreComparisons parts source cs → AreBlocks parts (block_list parts cs)
-are_blocks [] source [] a = tt
-are_blocks [] source (c ∷ cs) a = absurd a
-are_blocks (p ∷ parts) source [] a = absurd a
-are_blocks (p ∷ parts) source (c ∷ cs) a = ((found_lines c ++ line (codes "verdict " ++ verdict_word (verdict_of c)), append_assoc (line (codes "compare " ++ cell_name p)) (found_lines c) (line (codes "verdict " ++ verdict_word (verdict_of c)))), are_blocks parts source cs a.1)
+any_change_line : (c : Option Change) → AreGraphic (change_texts c) → is_line (any_change_word c) ≡ true
+any_change_line None h = refl
+any_change_line (Some c) h = change_line c [] h
 
-abbrev pub EqualMeansEqual : Type 0
-EqualMeansEqual = (part : CellPart) (source : Source) (c : Comparison) → IsComparison part source c → SaysEqual c → IsEqualPart part source
+row_line : (row : ℕ) → is_line (row_words row) ≡ true
+row_line row = joined_line (codes " row " ++ decimal row) (codes " change ") (joined_line (codes " row ") (decimal row) refl (decimal_line row)) refl
 
-some_same : {X : Type 0} (x y : X) → Some x ≡ Some y → x ≡ y
-some_same x y e = cc
+values_line : (a b : Tern) → is_line (values_words a b) ≡ true
+values_line a b =
+    joined_line (codes " liberty " ++ symbol_of a ∷ [] ++ codes " view ") (symbol_of b ∷ [])
+    (joined_line (codes " liberty " ++ symbol_of a ∷ []) (codes " view ") (joined_line (codes " liberty ") (symbol_of a ∷ []) refl (symbol_line a)) refl) (symbol_line b)
 
-truly : EqualMeansEqual → (parts : List CellPart) (source : Source) (cs : List Comparison) → AreComparisons parts source cs
-    → (k : ℕ) (p : CellPart) (b : List ℕ) → slice_get parts k ≡ Some p → slice_get (block_list parts cs) k ≡ Some b → EndsIn b (codes "verdict equal") → IsEqualPart p source
-truly law [] source cs a k p b e f h = absurd cc
-truly law (q ∷ parts) source [] a k p b e f h = absurd a
-truly law (q ∷ parts) source (c ∷ cs) a zero p b e f h =
-    let same : q ≡ p = some_same q p e in
-    let block_is : block (cell_name q) c ≡ b = some_same (block (cell_name q) c) b f in
-    let ends : EndsIn (block (cell_name q) c) (codes "verdict equal") = (h.0, block_is ∙ h.1) in
-    subst (λ x. IsEqualPart x source) same (law q source c a.0 (says_equal (cell_name q) c ends))
-truly law (q ∷ parts) source (c ∷ cs) a (suc k) p b e f h = truly law parts source cs a.1 k p b e f h
+step_line : (row : ℕ) (c : Change) (rest : List (List ℕ)) → AreGraphic (c.pin ∷ rest) → is_line (step_words row c) ≡ true
+step_line row c rest h = joined_line (row_words row) (change_word c) (row_line row) (change_line c rest h)
 
-pub says_truly : EqualMeansEqual → (library : Library) (source : Source) (report : CompareReport) → IsReport library source report → SaysEqualTruly library source report.text
-says_truly law library source report r = record {
-  blocks = block_list library.cells r.comparisons;
-  total = total_words (totals_of r.comparisons);
-  are = are_blocks library.cells source r.comparisons r.each;
-  whole = r.text ∙ ap (λ text. text ++ line (total_words (totals_of r.comparisons)) ++ line (codes "end")) (joined_list library.cells r.comparisons);
-  equal = truly law library.cells source r.comparisons r.each;
-}
+reason_line_of : (r : Reason) → AreGraphic (reason_texts r) → is_line (reason_words r) ≡ true
+reason_line_of (Construct view word line) h =
+    joined_line (codes "construct " ++ view_word view ++ codes " line " ++ decimal line ++ codes " ") word
+    (joined_line (codes "construct " ++ view_word view ++ codes " line " ++ decimal line) (codes " ")
+    (joined_line (codes "construct " ++ view_word view ++ codes " line ") (decimal line)
+    (joined_line (codes "construct " ++ view_word view) (codes " line ") (joined_line (codes "construct ") (view_word view) refl (view_line view)) refl) (decimal_line line)) refl) (text_line word [] h)
+reason_line_of (UnknownName name) h = joined_line (codes "unknown name ") name refl (text_line name [] h)
+reason_line_of (BadFunction owner place) h =
+    joined_line (codes "function " ++ owner ++ codes " place ") (decimal place)
+    (joined_line (codes "function " ++ owner) (codes " place ") (joined_line (codes "function ") owner refl (text_line owner [] h)) refl) (decimal_line place)
+reason_line_of (BadStateRow row) h = joined_line (codes "state row ") (decimal row) refl (decimal_line row)
+reason_line_of (UdpRow udp row) h =
+    joined_line (codes "udp " ++ udp ++ codes " row ") (decimal row) (joined_line (codes "udp " ++ udp) (codes " row ") (joined_line (codes "udp ") udp refl (text_line udp [] h)) refl) (decimal_line row)
+reason_line_of (UdpRows udp first second) h =
+    joined_line (codes "udp " ++ udp ++ codes " rows " ++ decimal first ++ codes " ") (decimal second)
+    (joined_line (codes "udp " ++ udp ++ codes " rows " ++ decimal first) (codes " ")
+    (joined_line (codes "udp " ++ udp ++ codes " rows ") (decimal first) (joined_line (codes "udp " ++ udp) (codes " rows ") (joined_line (codes "udp ") udp refl (text_line udp [] h)) refl) (decimal_line first)) refl) (decimal_line second)
+reason_line_of (Loop net) h = joined_line (codes "loop ") net refl (text_line net [] h)
+reason_line_of (TwoDrivers net) h = joined_line (codes "two drivers ") net refl (text_line net [] h)
+reason_line_of (UnknownUdp name) h = joined_line (codes "unknown udp ") name refl (text_line name [] h)
+reason_line_of (PortCount label) h = joined_line (codes "port count ") label refl (text_line label [] h)
+reason_line_of (UnknownModel name) h = joined_line (codes "unknown model ") name refl (text_line name [] h)
+reason_line_of (SupplyShort node) h = joined_line (codes "short ") node refl (text_line node [] h)
+reason_line_of (Limit kind number) h =
+    joined_line (codes "limit " ++ word_of kind ++ codes " ") (decimal number) (joined_line (codes "limit " ++ word_of kind) (codes " ") (joined_line (codes "limit ") (word_of kind) refl (kind_line kind)) refl) (decimal_line number)
+reason_line_of NoTable h = refl
+reason_line_of EmptyTable h = refl
+reason_line_of (TableShape line) h = joined_line (codes "table line ") (decimal line) refl (decimal_line line)
+reason_line_of (RowNotAtRest row place) h =
+    joined_line (codes "not at rest row " ++ decimal row ++ codes " ") place (joined_line (codes "not at rest row " ++ decimal row) (codes " ") (joined_line (codes "not at rest row ") (decimal row) refl (decimal_line row)) refl) (text_line place [] h)
+reason_line_of (NotClosed row change) h = joined_line (codes "not closed") (step_words row change) refl (step_line row change [] h)
+reason_line_of (Moving row change node) h =
+    joined_line (codes "moving" ++ step_words row change ++ codes " node ") node
+    (joined_line (codes "moving" ++ step_words row change) (codes " node ") (joined_line (codes "moving") (step_words row change) refl (step_line row change (node ∷ []) h)) refl)
+    (text_line node [] (both_true _ _ h).1)
+
+pin_line : (pin : Option (List ℕ)) → AreGraphic (pin_texts pin) → is_line (pin_word pin) ≡ true
+pin_line None h = refl
+pin_line (Some pin) h = text_line pin [] h
+
+mismatch_line : (m : Option Mismatch) → AreGraphic (mismatch_texts m) → is_line (any_mismatch_words m) ≡ true
+mismatch_line None h = refl
+mismatch_line (Some m) h =
+    joined_line (row_words m.row ++ any_change_word m.change) (values_words m.liberty m.other)
+    (joined_line (row_words m.row) (any_change_word m.change) (row_line m.row) (any_change_line m.change h)) (values_line m.liberty m.other)
+
+waived_line : (w : Option ℕ) → is_line (waived_words w) ≡ true
+waived_line None = refl
+waived_line (Some n) = joined_line (codes " waived ") (decimal n) refl (decimal_line n)
+
+finding_line_of : (f : Finding) → AreGraphic (finding_texts f) → is_line (finding_words f) ≡ true
+finding_line_of f h =
+    let texts = all_parts are_graphic (pin_texts f.pin) (mismatch_texts f.mismatch) h in
+    joined_line (code_word f.code ++ codes " " ++ pin_word f.pin ++ codes " " ++ view_word f.view ++ any_mismatch_words f.mismatch) (waived_words f.waiver)
+    (joined_line (code_word f.code ++ codes " " ++ pin_word f.pin ++ codes " " ++ view_word f.view) (any_mismatch_words f.mismatch)
+    (joined_line (code_word f.code ++ codes " " ++ pin_word f.pin ++ codes " ") (view_word f.view)
+    (joined_line (code_word f.code ++ codes " " ++ pin_word f.pin) (codes " ")
+    (joined_line (code_word f.code ++ codes " ") (pin_word f.pin)
+    (joined_line (code_word f.code) (codes " ") (code_line f.code) refl) (pin_line f.pin texts.0)) refl) (view_line f.view)) (mismatch_line f.mismatch texts.1)) (waived_line f.waiver)
+
+-- ---- a block as lines
+
+finding_front : Finding → List ℕ
+finding_front f = codes "finding " ++ finding_words f
+
+first_front : Option Finding → List (List ℕ)
+first_front None = []
+first_front (Some f) = finding_front f ∷ []
+
+found_front : Comparison → List (List ℕ)
+found_front (Refused r) = (codes "refused " ++ reason_words r) ∷ []
+found_front (Pins found) = map finding_front found
+found_front (Vectors n d first) = (codes "vectors " ++ decimal n) ∷ (codes "defined " ++ decimal d) ∷ first_front first
+
+findings_joined : (found : List Finding) → flat_map finding_line found ≡ flat_map line (map finding_front found)
+unfolding finding_front
+findings_joined [] = refl
+findings_joined (f ∷ found) = ap (λ rest. finding_line f ++ rest) (findings_joined found)
+
+first_joined : (first : Option Finding) → first_lines first ≡ flat_map line (first_front first)
+unfolding first_front finding_front
+first_joined None = refl
+first_joined (Some f) = sym (append-nil (finding_line f))
+
+found_joined : (c : Comparison) → found_lines c ≡ flat_map line (found_front c)
+unfolding found_front
+found_joined (Refused r) = sym (append-nil (reason_line r))
+found_joined (Pins found) = findings_joined found
+found_joined (Vectors n d first) =
+    append_assoc (line (codes "vectors " ++ decimal n)) (line (codes "defined " ++ decimal d)) (first_lines first)
+    ∙ ap (λ rest. line (codes "vectors " ++ decimal n) ++ (line (codes "defined " ++ decimal d) ++ rest)) (first_joined first)
+
+findings_line : (found : List Finding) → AreGraphic (flat_map finding_texts found) → list_all is_line (map finding_front found) ≡ true
+unfolding finding_front
+findings_line [] h = refl
+findings_line (f ∷ found) h =
+    let parts = all_parts are_graphic (finding_texts f) (flat_map finding_texts found) h in
+    let first : is_line (codes "finding " ++ finding_words f) ≡ true = joined_line (codes "finding ") (finding_words f) refl (finding_line_of f parts.0) in
+    let rest : list_all is_line (map finding_front found) ≡ true = findings_line found parts.1 in
+    rw (first, rest) refl
+
+found_line : (c : Comparison) → AreGraphic (told_texts c) → list_all is_line (found_front c) ≡ true
+unfolding found_front first_front finding_front
+found_line (Refused r) h =
+    let one : is_line (codes "refused " ++ reason_words r) ≡ true = joined_line (codes "refused ") (reason_words r) refl (reason_line_of r h) in
+    rw one refl
+found_line (Pins found) h = findings_line found h
+found_line (Vectors n d None) h =
+    let one : is_line (codes "vectors " ++ decimal n) ≡ true = joined_line (codes "vectors ") (decimal n) refl (decimal_line n) in
+    let two : is_line (codes "defined " ++ decimal d) ≡ true = joined_line (codes "defined ") (decimal d) refl (decimal_line d) in
+    rw (one, two) refl
+found_line (Vectors n d (Some f)) h =
+    let one : is_line (codes "vectors " ++ decimal n) ≡ true = joined_line (codes "vectors ") (decimal n) refl (decimal_line n) in
+    let two : is_line (codes "defined " ++ decimal d) ≡ true = joined_line (codes "defined ") (decimal d) refl (decimal_line d) in
+    let three : is_line (codes "finding " ++ finding_words f) ≡ true = joined_line (codes "finding ") (finding_words f) refl (finding_line_of f h) in
+    rw (one, two, three) refl
+
+front : List ℕ
+front = codes "compare "
+
+findings_quiet : (found : List Finding) → list_all (is_quiet front) (map finding_front found) ≡ true
+unfolding front finding_front
+findings_quiet [] = refl
+findings_quiet (f ∷ found) = findings_quiet found
+
+found_quiet : (c : Comparison) → list_all (is_quiet front) (found_front c) ≡ true
+unfolding front found_front first_front finding_front
+found_quiet (Refused r) = refl
+found_quiet (Pins found) = findings_quiet found
+found_quiet (Vectors n d None) = refl
+found_quiet (Vectors n d (Some f)) = refl
+
+verdict_line : (c : Comparison) → is_line (codes "verdict " ++ verdict_word (verdict_of c)) ≡ true
+verdict_line (Refused r) = refl
+verdict_line (Pins found) = refl
+verdict_line (Vectors n d None) = refl
+verdict_line (Vectors n d (Some f)) = refl
+
+block_front : List ℕ → Comparison → List (List ℕ)
+block_front name c = (codes "compare " ++ name) ∷ (found_front c ++ (codes "verdict " ++ verdict_word (verdict_of c)) ∷ [])
+
+flat_ends : (ws : List (List ℕ)) (w : List ℕ) → flat_map line (ws ++ w ∷ []) ≡ flat_map line ws ++ line w
+flat_ends [] w = append-nil (line w)
+flat_ends (x ∷ ws) w = ap (λ rest. line x ++ rest) (flat_ends ws w) ∙ sym (append_assoc (line x) (flat_map line ws) (line w))
+
+block_joined : (name : List ℕ) (c : Comparison) → block name c ≡ flat_map line (block_front name c)
+unfolding block_front
+block_joined name c =
+    append_assoc (line (codes "compare " ++ name)) (found_lines c) (line (codes "verdict " ++ verdict_word (verdict_of c)))
+    ∙ ap (λ rest. line (codes "compare " ++ name) ++ (rest ++ line (codes "verdict " ++ verdict_word (verdict_of c)))) (found_joined c)
+    ∙ ap (λ rest. line (codes "compare " ++ name) ++ rest) (sym (flat_ends (found_front c) (codes "verdict " ++ verdict_word (verdict_of c))))
+
+block_line : (name : List ℕ) (c : Comparison) → are_graphic name ≡ true → AreGraphic (told_texts c) → list_all is_line (block_front name c) ≡ true
+unfolding block_front
+block_line name c h g =
+    let first : is_line (codes "compare " ++ name) ≡ true = joined_line (codes "compare ") name refl (graphic_line name h) in
+    let last : list_all is_line ((codes "verdict " ++ verdict_word (verdict_of c)) ∷ []) ≡ true = rw (verdict_line c) refl in
+    let rest : list_all is_line (found_front c ++ (codes "verdict " ++ verdict_word (verdict_of c)) ∷ []) ≡ true =
+        all_joined is_line (found_front c) _ (found_line c g) last in
+    rw (first, rest) refl
+
+said : List ℕ → Comparison → SaidCell
+said name c = record { name = name; verdict = Some (verdict_word (verdict_of c)) }
+
+first_verdict : (word : List ℕ) (ls : List (List ℕ)) → first_behind (codes "verdict ") ((codes "verdict " ++ word) ∷ ls) ≡ Some word
+unfolding first_behind
+first_verdict word ls = refl
+
+verdict_unsaid : (word : List ℕ) (ls : List (List ℕ)) → cells_said front ((codes "verdict " ++ word) ∷ ls) ≡ cells_said front ls
+unfolding cells_said front
+verdict_unsaid word ls = refl
+
+name_said : (name : List ℕ) (ls : List (List ℕ)) → cells_said front ((codes "compare " ++ name) ∷ ls) ≡ record { name = name; verdict = first_behind (codes "verdict ") ls } ∷ cells_said front ls
+unfolding cells_said front
+name_said name ls = refl
+
+block_said : (name : List ℕ) (c : Comparison) (ls : List (List ℕ)) → cells_said front (block_front name c ++ ls) ≡ said name c ∷ cells_said front ls
+unfolding block_front said
+block_said name c ls =
+    let word = verdict_word (verdict_of c) in
+    let tail : (found_front c ++ (codes "verdict " ++ word) ∷ []) ++ ls ≡ found_front c ++ ((codes "verdict " ++ word) ∷ ls) = append_assoc (found_front c) ((codes "verdict " ++ word) ∷ []) ls in
+    name_said name ((found_front c ++ (codes "verdict " ++ word) ∷ []) ++ ls)
+    ∙ ap (λ rest. record { name = name; verdict = first_behind (codes "verdict ") rest } ∷ cells_said front rest) tail
+    ∙ ap (λ v. record { name = name; verdict = v } ∷ cells_said front (found_front c ++ ((codes "verdict " ++ word) ∷ ls)))
+      (quiet_first front (found_front c) ((codes "verdict " ++ word) ∷ ls) (found_quiet c) ∙ first_verdict word ls)
+    ∙ ap (λ cs. record { name = name; verdict = Some word } ∷ cs) (quiet_said front (found_front c) ((codes "verdict " ++ word) ∷ ls) (found_quiet c) ∙ verdict_unsaid word ls)
+
+-- ---- the report
+
+module _ (limits : Limits) (source : Source) (is : IsSource limits source)
+  (shown : (part : CellPart) (c : Comparison) → is_part limits part ≡ true → IsComparison part source c → AreGraphic (told_texts c))
+  (law : (part : CellPart) (c : Comparison) → IsComparison part source c → SaysEqual c → IsEqualPart part source) where
+
+  name_graphic : (p : CellPart) → is_part limits p ≡ true → are_graphic (cell_name p) ≡ true
+  name_graphic (cells.Whole cell) h = within_graphic limits cell.name (both_true _ _ (both_true _ _ (both_true _ _ h).0).0).0
+  name_graphic (cells.Refused name construct line) h = within_graphic limits name (both_true _ _ h).0
+
+  saids : List CellPart → List Comparison → List SaidCell
+  saids [] cs = []
+  saids (p ∷ parts) [] = []
+  saids (p ∷ parts) (c ∷ cs) = said (cell_name p) c ∷ saids parts cs
+
+  blocks_said : (parts : List CellPart) (cs : List Comparison) (rest : List ℕ) → list_all (is_part limits) parts ≡ true → AreComparisons parts source cs → cells_said front (lines_of rest) ≡ []
+      → cells_said front (lines_of (blocks parts cs ++ rest)) ≡ saids parts cs
+  unfolding saids
+  blocks_said [] [] rest h a e = e
+  blocks_said [] (c ∷ cs) rest h a e = absurd a
+  blocks_said (p ∷ parts) [] rest h a e = absurd a
+  blocks_said (p ∷ parts) (c ∷ cs) rest h a e =
+      let b : (is_part limits p ≡ true) × (list_all (is_part limits) parts ≡ true) = both_true _ _ h in
+      let more : List ℕ = blocks parts cs ++ rest in
+      let text : (block (cell_name p) c ++ blocks parts cs) ++ rest ≡ flat_map line (block_front (cell_name p) c) ++ more =
+          append_assoc (block (cell_name p) c) (blocks parts cs) rest ∙ ap (λ t. t ++ more) (block_joined (cell_name p) c) in
+      let whole : list_all is_line (block_front (cell_name p) c) ≡ true = block_line (cell_name p) c (name_graphic p b.0) (shown p c b.0 a.0) in
+      ap (λ t. cells_said front (lines_of t)) text
+      ∙ ap (cells_said front) (many_lines (block_front (cell_name p) c) more whole)
+      ∙ block_said (cell_name p) c (lines_of more)
+      ∙ ap (λ ss. said (cell_name p) c ∷ ss) (blocks_said parts cs rest b.1 a.1 e)
+
+  equal_words : (c : Comparison) → verdict_word (verdict_of c) ≡ codes "equal" → SaysEqual c
+  equal_words (Refused r) e = absurd (let f : 114 ∷ codes "efused" ≡ 101 ∷ codes "qual" = e in cc)
+  equal_words (Pins found) e = absurd (let f : 100 ∷ codes "iffers" ≡ 101 ∷ codes "qual" = e in cc)
+  equal_words (Vectors n d None) e = tt
+  equal_words (Vectors n d (Some f)) e = absurd (let g : 100 ∷ codes "iffers" ≡ 101 ∷ codes "qual" = e in cc)
+
+  -- what is said of the k-th of these cells
+  pub record IsSaidOf (parts : List CellPart) (k : ℕ) (s : SaidCell) : Type 0 where
+    pub part : CellPart
+    pub is_cell : slice_get parts k ≡ Some part
+    pub name : s.name ≡ cell_name part
+    pub equal : s.verdict ≡ Some (codes "equal") → IsEqualPart part source
+
+  said_truly : (parts : List CellPart) (cs : List Comparison) → AreComparisons parts source cs → (k : ℕ) (s : SaidCell) → slice_get (saids parts cs) k ≡ Some s → IsSaidOf parts k s
+  unfolding saids said
+  said_truly [] cs a k s e = absurd cc
+  said_truly (p ∷ parts) [] a k s e = absurd a
+  said_truly (p ∷ parts) (c ∷ cs) a zero s e =
+      let is_said : record { name = cell_name p; verdict = Some (verdict_word (verdict_of c)) } ≡ s = cc in
+      let word : Some (verdict_word (verdict_of c)) ≡ s.verdict = ap (λ (x : SaidCell). x.verdict) is_said in
+      record {
+        part = p;
+        is_cell = refl;
+        name = sym (ap (λ (x : SaidCell). x.name) is_said);
+        equal = λ f. law p c a.0 (equal_words c (let both : Some (verdict_word (verdict_of c)) ≡ Some (codes "equal") = word ∙ f in cc));
+      }
+  said_truly (p ∷ parts) (c ∷ cs) a (suc k) s e =
+      let r = said_truly parts cs a.1 k s e in
+      record { part = r.part; is_cell = r.is_cell; name = r.name; equal = r.equal }
+
+  end_line : is_line (codes "end") ≡ true
+  end_line = refl
+
+  total_line : (cs : List Comparison) → is_line (total_words (totals_of cs)) ≡ true
+  total_line cs =
+      let t = totals_of cs in
+      joined_line (codes "total equal " ++ decimal t.equal ++ codes " differs " ++ decimal t.differs ++ codes " refused ") (decimal t.refused)
+      (joined_line (codes "total equal " ++ decimal t.equal ++ codes " differs " ++ decimal t.differs) (codes " refused ")
+      (joined_line (codes "total equal " ++ decimal t.equal ++ codes " differs ") (decimal t.differs)
+      (joined_line (codes "total equal " ++ decimal t.equal) (codes " differs ") (joined_line (codes "total equal ") (decimal t.equal) refl (decimal_line t.equal)) refl) (decimal_line t.differs)) refl) (decimal_line t.refused)
+
+  nothing_said : (cs : List Comparison) → cells_said front (lines_of (line (total_words (totals_of cs)) ++ line (codes "end"))) ≡ []
+  unfolding cells_said front lines_of
+  nothing_said cs =
+      ap (λ t. cells_said front (lines_of t)) (append_assoc (total_words (totals_of cs)) (10 ∷ []) (line (codes "end")))
+      ∙ ap (cells_said front) (one_line (total_words (totals_of cs)) (line (codes "end")) (total_line cs))
+
+  pub report_truly : (library : Library) (report : CompareReport) → IsLibrary limits library → IsReport library source report → SaysEqualTruly library source report.text
+  unfolding front
+  report_truly library report kept r k s e =
+      let rest : List ℕ = line (total_words (totals_of r.comparisons)) ++ line (codes "end") in
+      let text : report.text ≡ blocks library.cells r.comparisons ++ rest =
+          r.text ∙ append_assoc (blocks library.cells r.comparisons) (line (total_words (totals_of r.comparisons))) (line (codes "end")) in
+      let all : cells_compared report.text ≡ saids library.cells r.comparisons =
+          ap (λ t. cells_said front (lines_of t)) text ∙ blocks_said library.cells r.comparisons rest kept.cells r.each (nothing_said r.comparisons) in
+      let t = said_truly library.cells r.comparisons r.each k s (sym (ap (λ ss. slice_get ss k) all) ∙ e) in
+      record { part = t.part; is_cell = t.is_cell; name = t.name; equal = t.equal }
+
+-- ---- a first part of a text
+
+pub part_truly : (library : Library) (source : Source) (part rest : List ℕ) → SaysEqualTruly library source (part ++ rest) → SaysEqualTruly library source part
+part_truly library source part rest h k s e =
+    let more = front_lines part rest in
+    let on = said_gone_on (codes "compare ") (lines_of part) more.0 k s e in
+    let there : slice_get (cells_compared (part ++ rest)) k ≡ Some on.0 = ap (λ ls. slice_get (cells_said (codes "compare ") ls) k) more.1 ∙ on.1 in
+    let t = h k on.0 there in
+    record { part = t.part; is_cell = t.is_cell; name = sym on.2.name ∙ t.name; equal = λ f. t.equal (on.2.verdict (codes "equal") f) }

@@ -1,36 +1,25 @@
--- What the blocks of a compare text say.
-use Rattle.std.specs.Prelude.{◌≡◌, ℕ, List, [], ◌∷◌, ◌++◌, codes, slice_get, Option, Some}
+-- What a compare text says of cells, and that it is so.
+use Rattle.std.specs.Prelude.{◌≡◌, ℕ, List, slice_get, Some, codes}
 use Rattle.liberty_source.specs.declared.Library.{Library}
 use Rattle.liberty_source.specs.declared.CellPart.{CellPart}
+use Rattle.liberty_source.specs.Library.{cell_name}
 use Rattle.verilog_source.specs.declared.Source.{Source}
 use Rattle.cell_compare.specs.Equal.{IsEqualPart}
-use Rattle.compare_text.specs.Text.{line, cell_name}
+use Rattle.compare_text.specs.Said.{SaidCell, lines_of, cells_said}
 
-abbrev pub joined : List (List ℕ) → List ℕ
-joined [] = []
-joined (b ∷ blocks) = b ++ joined blocks
+-- the cells that a compare text speaks of
+abbrev pub cells_compared : List ℕ → List SaidCell
+cells_compared text = cells_said (codes "compare ") (lines_of text)
 
--- the block's last line is this one
-abbrev pub EndsIn : List ℕ → List ℕ → Type 0
-EndsIn block words = (front : List ℕ) × (block ≡ front ++ line words)
+-- What is said is said of the library's cell with this place, and where it says `equal` the cell is equal: each output
+-- that Liberty defines has its value in Verilog, at every vector of input values.
+pub record IsSaidTruly (library : Library) (source : Source) (k : ℕ) (said : SaidCell) : Type 0 where
+  pub part : CellPart
+  pub is_cell : slice_get library.cells k ≡ Some part
+  pub name : said.name ≡ cell_name part
+  pub equal : said.verdict ≡ Some (codes "equal") → IsEqualPart part source
 
--- the block begins with the line of this cell
-abbrev pub IsBlockOf : List ℕ → List ℕ → Type 0
-IsBlockOf name block = (rest : List ℕ) × (block ≡ line (codes "compare " ++ name) ++ rest)
-
--- a block for each cell, in the order of the file, each beginning with the cell's name
-abbrev pub AreBlocks : List CellPart → List (List ℕ) → Type 0
-AreBlocks [] [] = Unit {0}
-AreBlocks (p ∷ parts) (b ∷ blocks) = IsBlockOf (cell_name p) b × AreBlocks parts blocks
-AreBlocks [] (b ∷ blocks) = ⊥
-AreBlocks (p ∷ parts) [] = ⊥
-
--- The text is a block for each cell and two lines behind them. Where a cell's block ends in `verdict equal`, the cell is
--- equal: each output that Liberty defines has its value in Verilog, at every vector of input values.
-pub record SaysEqualTruly (library : Library) (source : Source) (text : List ℕ) : Type 0 where
-  pub blocks : List (List ℕ)
-  pub total : List ℕ
-  pub are : AreBlocks library.cells blocks
-  pub whole : text ≡ joined blocks ++ line total ++ line (codes "end")
-  pub equal : (k : ℕ) (p : CellPart) (b : List ℕ) → slice_get library.cells k ≡ Some p → slice_get blocks k ≡ Some b
-      → EndsIn b (codes "verdict equal") → IsEqualPart p source
+-- For every k, the k-th line that begins with `compare ` names the k-th cell of the library, and where the first line
+-- behind it that begins with `verdict ` is `verdict equal`, that cell is equal.
+abbrev pub SaysEqualTruly : Library → Source → List ℕ → Type 0
+SaysEqualTruly library source text = (k : ℕ) (said : SaidCell) → slice_get (cells_compared text) k ≡ Some said → IsSaidTruly library source k said

@@ -3,7 +3,7 @@ use Rattle.std.specs.Prelude.{◌≡◌, ℕ, ◌+◌, Bool, true, false, if◌t
 use Rattle.std.specs.List.{flat_map}
 use Rattle.liberty_source.specs.declared.Library.{Library}
 use Rattle.liberty_source.specs.declared.CellPart.{CellPart}
-use Rattle.liberty_source.specs.declared.CellPart.TheVariants as cells
+use Rattle.liberty_source.specs.Library.{cell_name}
 use Rattle.verilog_source.specs.declared.Source.{Source}
 use Rattle.verdict_text.specs.declared.finding.Finding.{Finding}
 use Rattle.verdict_text.specs.Lines.{finding_line, reason_line}
@@ -53,10 +53,6 @@ found_lines (Vectors vectors defined first) = vectors_lines vectors defined firs
 -- the cell's name, what was found, and the verdict
 abbrev pub block : List ℕ → Comparison → List ℕ
 block name c = line (codes "compare " ++ name) ++ found_lines c ++ line (codes "verdict " ++ verdict_word (verdict_of c))
-
-abbrev pub cell_name : CellPart → List ℕ
-cell_name (cells.Whole cell) = cell.name
-cell_name (cells.Refused name construct line) = name
 
 abbrev pub blocks : List CellPart → List Comparison → List ℕ
 blocks [] comparisons = []

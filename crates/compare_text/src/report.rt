@@ -1,11 +1,14 @@
 //! The report on a library.
 ghost use Rattle.std.specs.Prelude.{◌≡◌, ◌<◌, ◌+◌, ◌^◌, IfOk};
 ghost use Rattle.compare_text.specs.Text as spec;
+ghost use Rattle.text_scan.specs.declared.limits.Limits.{Limits};
+ghost use Rattle.liberty_source.specs.Library.{cell_name, IsLibrary};
+ghost use Rattle.verilog_source.specs.Source.{IsSource};
 ghost use Rattle.compare_text.specs.Blocks.{SaysEqualTruly};
 
 use crate::block::{put_block, put_line, put_totals};
 use crate::verdict::{CompareVerdict, verdict_of};
-use cell_compare::laws::equal_means_equal;
+use cell_compare::laws::{equal_means_equal, texts_can_be_shown};
 use cell_compare::{Models, compare_part};
 use liberty_source::{CellPart, Library};
 use std::alloc::Global;
@@ -42,7 +45,7 @@ impl Totals {
 }
 
 fn cell_name(part: &CellPart) -> &Text
-    ensures { result.now ≡ spec.cell_name part.now }
+    ensures { result.now ≡ cell_name part.now }
 {
     match part {
         CellPart::Whole(cell) => &cell.name,
@@ -57,10 +60,12 @@ pub fn compare_library(
     models: &Models,
 ) -> Result<CompareReport, NoMemory>
     ensures report { IfOk result (spec.IsReport library.now models.now) }
-    // Where a cell's block says that it is equal, it is.
-    ensures equal { IfOk result (λ report. SaysEqualTruly library.now models.now report.text) }
+    // Where the lines say that a cell is equal, it is, if the names and words of both files can be shown.
+    ensures equal { IfOk result (λ report. (limits : Limits) → IsLibrary limits library.now → IsSource limits models.now
+        → SaysEqualTruly library.now models.now report.text) }
 {
     equal_means_equal();
+    texts_can_be_shown();
     let mut text = Vec::new(alloc);
     let mut totals = Totals {
         equal: 0,

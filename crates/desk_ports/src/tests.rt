@@ -108,14 +108,18 @@ fn a_sink_keeps_a_first_part(rt: HostRuntime) -> Result<(), Fail> {
 fn real_files_are_read(rt: HostRuntime) -> Result<(), Fail> {
     let alloc = rt.alloc();
     let name = "desk_ports_real_file";
-    fs::write(&rt, name, vec![in alloc; 7u8; 5000]?.as_slice())?;
+    let mut content = Vec::new(alloc);
+    for k in 0..5000u32 {
+        content.push((k % 251) as u8)?;
+    }
+    fs::write(&rt, name, content.as_slice())?;
     let mut shelf = FileShelf::new(&rt);
-    let whole = read_file(alloc, &mut shelf, name, 5000).map(|bytes| bytes.len());
+    let whole = read_file(alloc, &mut shelf, name, 5000)?;
     let long = read_file(alloc, &mut shelf, name, 4999).map(|bytes| bytes.len());
     let folder = read_file(alloc, &mut shelf, ".", 4999).map(|bytes| bytes.len());
     fs::remove_file(&rt, name)?;
     let missing = read_file(alloc, &mut shelf, name, 5000).map(|bytes| bytes.len());
-    assert_eq!(rt; whole, Ok(5000));
+    assert_eq!(rt; whole.as_slice(), content.as_slice());
     assert_eq!(rt; long, Err(ReadRefusal::TooLong));
     assert_eq!(rt; folder, Err(ReadRefusal::Failed));
     assert_eq!(rt; missing, Err(ReadRefusal::Failed));

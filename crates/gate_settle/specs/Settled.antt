@@ -1,6 +1,6 @@
 -- The settled assignment (IEEE 1364-2005, clause 7): a set of equations without an order.
 use Rattle.std.specs.Prelude.{◌≡◌, ℕ, ◌==◌, Bool, true, false, ◌&&◌, ◌||◌, not, nat_lt, if◌then◌else◌, List, [], ◌∷◌, length, slice_set, Option, Some, None}
-use Rattle.std.specs.List.{slice_get}
+use Rattle.std.specs.List.{slice_get, list_all}
 use Rattle.tern_core.specs.declared.tern.Tern.{Tern}
 use Rattle.tern_core.specs.declared.tern.Tern.TheVariants.{Unknown}
 use Rattle.udp_table.specs.Table.{Table}
@@ -100,3 +100,7 @@ is_own count gates (FromTable table) = true
 abbrev pub have_own_states : ℕ → List Gate → Bool
 have_own_states count [] = true
 have_own_states count (g ∷ gates) = is_own count gates g.function && have_own_states count gates
+
+-- places among so many
+abbrev pub are_places : ℕ → List ℕ → Bool
+are_places count places = list_all (λ k. nat_lt k count) places

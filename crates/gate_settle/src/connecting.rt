@@ -2,7 +2,7 @@
 
 ghost use Rattle.std.specs.Prelude.{◌≡◌, ◌+◌, ℕ, true, sum_by, length, IfOk, IfErr, OnOk};
 ghost use Rattle.gate_settle.specs.declared.gate.Gate.{Gate};
-ghost use Rattle.gate_settle.specs.Settled.{have_own_states};
+ghost use Rattle.gate_settle.specs.Settled.{have_own_states, are_places};
 ghost use Rattle.gate_settle.specs.Reach.{AreWithin};
 ghost use Rattle.gate_settle.specs.Connecting.{IsConnected, IsNotConnected, HaveOneDriver};
 
@@ -72,6 +72,7 @@ pub fn connect(
 ) -> Result<GateNet, ConnectRefusal>
     requires within { AreWithin gates.items (length given) }
     requires states { have_own_states (length state_nets) gates.items ≡ true }
+    requires nets { are_places (length given) state_nets ≡ true }
     ensures connected { IfOk result (IsConnected given tables gates.items state_nets) }
     ensures refused { IfErr result (IsNotConnected given gates.items) }
 {

@@ -20,14 +20,14 @@ pub struct GateNet {
 impl Model for GateNet {
     ghost use Rattle.std.specs.Prelude.{◌≡◌, true, length};
     ghost use Rattle.gate_settle.specs.Order.{is_ordered, known_at_first};
-    ghost use Rattle.gate_settle.specs.Settled.{have_own_states};
+    ghost use Rattle.gate_settle.specs.Settled.{have_own_states, are_places};
     ghost use Rattle.gate_settle.specs.Network.{Network};
 
     ghost Value = { Network };
 
     ghost view = { λ n. record { given = n.given; tables = n.tables; gates = n.gates; state_nets = n.state_nets } };
 
-    ghost invariant = { λ n. (is_ordered (known_at_first (length n.given) n.gates) n.gates ≡ true) × (have_own_states (length n.state_nets) n.gates ≡ true) };
+    ghost invariant = { λ n. (is_ordered (known_at_first (length n.given) n.gates) n.gates ≡ true) × (have_own_states (length n.state_nets) n.gates ≡ true) × (are_places (length n.given) n.state_nets ≡ true) };
 }
 
 impl Given {
@@ -70,7 +70,8 @@ impl GateNet {
     /// The net that shows a state. States count from 0, in the order of the text.
     pub fn state_net(&self, state: usize) -> usize
         requires { state < length self.now.state_nets }
-        ensures { slice_get self.now.state_nets state ≡ Some result }
+        ensures found { slice_get self.now.state_nets state ≡ Some result }
+        ensures within { result < length self.now.given }
     {
         self.state_nets.as_slice()[state]
     }

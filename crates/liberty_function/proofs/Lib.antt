@@ -9,3 +9,4 @@ pub mod Accepts
 pub mod TextLemmas
 pub mod OneValue
 pub mod Order
+pub mod Identifiers

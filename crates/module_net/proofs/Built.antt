@@ -1,10 +1,10 @@
 -- What a module's gates drive, and which states they hold.
 use Rattle.std.proofs.Common.{◌≡◌, ℕ, zero, suc, ◌+◌, ◌<◌, ◌≤◌, Bool, true, false, cond, ◌||◌, ◌&&◌, ◌⊎◌, eqb, eqb-true, List, [], ◌∷◌, ◌++◌, length, map, take, Option, Some, None, inl, inr, refl, sym, ap, subst, ◌∙◌, arith}
-use Rattle.std.specs.Prelude.{is_some, not}
+use Rattle.std.specs.Prelude.{is_some, not, nat_lt}
 use Rattle.std.specs.List.{flat_map, list_all}
 use Rattle.std.specs.Str.{bytes_eq}
 use Rattle.std.specs.Cmp.Lexicographic.{bytes_decides}
-use Rattle.std.proofs.lemmas.List.Folds.{list_any-append}
+use Rattle.std.proofs.lemmas.List.Folds.{list_any-append, list_all-append}
 use Rattle.std.proofs.lemmas.List.{append_assoc, length-append, length-map}
 use Rattle.std.proofs.lemmas.Bool.{lt-ltb}
 use Rattle.tern_core.specs.declared.tern.Tern.{Tern}
@@ -19,7 +19,7 @@ use Rattle.gate_settle.specs.declared.connecting.ConnectRefusal.{ConnectRefusal}
 use Rattle.gate_settle.specs.declared.connecting.ConnectRefusal.TheVariants as numbered
 use Rattle.gate_settle.specs.Connecting.{IsNotConnected}
 use Rattle.gate_settle.specs.Gates.{is_among, is_driven}
-use Rattle.gate_settle.specs.Settled.{has_state, is_held, is_own, have_own_states}
+use Rattle.gate_settle.specs.Settled.{has_state, is_held, is_own, have_own_states, are_places}
 use Rattle.name_index.specs.Places.{place_of, is_known}
 use Rattle.name_index.proofs.Places.{known_by_place, place_within}
 use Rattle.module_net.specs.declared.word.GateWord.{GateWord}
@@ -122,6 +122,32 @@ gates_within tables used nets element state (e ∷ es) k known h =
       | inl f ↦ terminals_within nets (outputs_by (element_word e) (length e.terminals)) e.terminals k (element_known nets e parts.0) f
       | inr f ↦ gates_within tables used nets (element + 1) (next_state_place (holds_state tables e) state) es k parts.1 f
     ]
+
+-- ---- what shows a state is a net
+
+places_joined : (count : ℕ) (xs ys : List ℕ) → are_places count xs ≡ true → are_places count ys ≡ true → are_places count (xs ++ ys) ≡ true
+places_joined count xs ys h k = list_all-append (λ p. nat_lt p count) xs ys ∙ ap (λ b. b && are_places count ys) h ∙ k
+
+terminal_places : (nets : List (List ℕ)) (t : Terminal) → AllKnown nets (terminal_names t) → are_places (length nets) (driven nets t) ≡ true
+terminal_places nets (terminals.Net n) known = ap (λ b. b && true) (lt-ltb (place_in nets n) (length nets) (place_below nets n known.0))
+terminal_places nets (terminals.Constant v) known = refl
+
+output_places : (nets : List (List ℕ)) (count : ℕ) (ts : List Terminal) → AllKnown nets (flat_map terminal_names ts) → are_places (length nets) (flat_map (driven nets) (take count ts)) ≡ true
+output_places nets zero ts known = refl
+output_places nets (suc n) [] known = refl
+output_places nets (suc n) (t ∷ ts) known =
+    let parts = known_parts nets (terminal_names t) (flat_map terminal_names ts) known in
+    places_joined (length nets) (driven nets t) (flat_map (driven nets) (take n ts)) (terminal_places nets t parts.0) (output_places nets n ts parts.1)
+
+state_places_by : (nets : List (List ℕ)) (s : Bool) (e : Element) → AllKnown nets (element_names e) → are_places (length nets) (state_net_by s nets e) ≡ true
+state_places_by nets true e known = output_places nets (outputs_by (element_word e) (length e.terminals)) e.terminals (element_known nets e known)
+state_places_by nets false e known = refl
+
+state_places : (tables : List Table) (nets : List (List ℕ)) (es : List Element) → AllKnown nets (flat_map element_names es) → are_places (length nets) (state_nets_of tables nets es) ≡ true
+state_places tables nets [] known = refl
+state_places tables nets (e ∷ es) known =
+    let parts = known_parts nets (element_names e) (flat_map element_names es) known in
+    places_joined (length nets) (state_net_by (holds_state tables e) nets e) (state_nets_of tables nets es) (state_places_by nets (holds_state tables e) e parts.0) (state_places tables nets es parts.1)
 
 -- ---- each state is held once
 
@@ -237,6 +263,13 @@ within_all m tables elements used nets texts gates given g e n h t v k d =
     let below : k < length nets = gates_within tables used nets 0 0 elements k known (ap (λ z. is_driven z k) (sym h) ∙ d) in
     let len : length given ≡ length nets = ap length v ∙ length-map texts g ∙ ap length t in
     omega arith
+
+pub places_all : (m : Module) (tables : List Table) (elements : List Element) (nets texts : List (List ℕ)) (given : List Given) (g : List ℕ → Given) (state_nets : List ℕ)
+    → elements ≡ m.elements → nets ≡ nets_of m → texts ≡ nets → given ≡ map g texts → state_nets ≡ state_nets_of tables nets elements → are_places (length given) state_nets ≡ true
+places_all m tables elements nets texts given g state_nets e n t v s =
+    let known : AllKnown nets (flat_map element_names elements) = subst (λ z. AllKnown z (flat_map element_names elements)) (sym n) (subst (λ z. AllKnown (nets_of m) (flat_map element_names z)) (sym e) (module_known m)) in
+    let len : length given ≡ length nets = ap length v ∙ length-map texts g ∙ ap length t in
+    ap (are_places (length given)) s ∙ ap (λ count. are_places count (state_nets_of tables nets elements)) len ∙ state_places tables nets elements known
 
 pub own_all : (m : Module) (tables : List Table) (elements : List Element) (used nets : List (List ℕ)) (gates : List Gate) (state_nets : List ℕ)
     → elements ≡ m.elements → first_refused tables elements ≡ None → DriveNets m.elements → gates ≡ gates_from tables used nets 0 0 elements → state_nets ≡ state_nets_of tables nets elements → have_own_states (length state_nets) gates ≡ true

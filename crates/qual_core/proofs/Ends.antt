@@ -1,8 +1,14 @@
 -- How a run ends, by its status.
-use Rattle.std.proofs.Common.{◌≡◌, ◌≤◌, inl, ℕ, List, ◌++◌, Option, Some, None, IsSome, refl, sym, ◌∙◌, ap, subst, rules}
+use Rattle.std.proofs.Common.{◌≡◌, ◌≤◌, inl, ℕ, List, [], ◌∷◌, ◌++◌, take, drop, length, append-nil, slice_get, Option, Some, None, IsSome, refl, sym, ◌∙◌, ap, subst, rules}
+use Rattle.std.proofs.Math.Seq.{drop-append_seam}
+use Rattle.std.proofs.lemmas.List.{take-append-drop}
+use Rattle.desk_ports.specs.Sink.{AppendsPart}
+use Rattle.compare_text.specs.Said.{SaidCell, lines_of, cells_said}
+use Rattle.compare_text.specs.Blocks.{cells_compared, SaysEqualTruly}
+use Rattle.compare_text.proofs.Saying.{part_truly}
 use Rattle.qual_core.specs.Command.{command_of}
 use Rattle.qual_core.specs.Outcome.{usage, refused, IsReplyTo, IsOutcome}
-use Rattle.qual_core.specs.Top.{IsOnly, Blames, IsVerdict, IsDoneOrFaulty, IsUsageOrVerdict, IsAnswer, IsRefusal, UsageExactly, AnswersExactly, Writes, WritesTruly, IsAnswerTo}
+use Rattle.qual_core.specs.Top.{IsOnly, Blames, IsVerdict, IsDoneOrFaulty, IsUsageOrVerdict, IsAnswer, IsRefusal, UsageExactly, AnswersExactly, Writes, SpeaksTruly, WritesTruly, IsAnswerTo}
 use Rattle.qual_core.specs.declared.command.Command.{Command}
 use Rattle.qual_core.specs.declared.reply.Reply.{Reply}
 use Rattle.qual_core.specs.declared.reply.Status.{Status}
@@ -54,14 +60,31 @@ writes_whole WriteFault outcome old new reply h o e w = absurd h
 writes_whole NoMemory outcome old new reply h o e w = absurd h
 
 -- what was written says what is so
-pub writes_truly : (status : Status) (words : List (List ℕ)) (file : List ℕ → Option (List ℕ)) (old new : List ℕ) (reply : Reply) → IsAnswer status → IsAnswerTo words file reply → reply.status ≡ status → new ≡ old ++ reply.text → WritesTruly status words file old new
-writes_truly Done words file old new reply h a e w = let t = a.truly (subst IsDoneOrFaulty (sym e) tt) in (t.0, reply.text, w, t.1)
-writes_truly Faulty words file old new reply h a e w = let t = a.truly (subst IsDoneOrFaulty (sym e) tt) in (t.0, reply.text, w, t.1)
-writes_truly Usage words file old new reply h a e w = tt
-writes_truly FileRefused words file old new reply h a e w = tt
-writes_truly ReadFault words file old new reply h a e w = tt
-writes_truly WriteFault words file old new reply h a e w = absurd h
-writes_truly NoMemory words file old new reply h a e w = tt
+written : (old text new : List ℕ) → new ≡ old ++ text → drop (length old) new ≡ text
+written old text new e = ap (drop (length old)) e ∙ drop-append_seam old text
+
+pub writes_truly : (words : List (List ℕ)) (file : List ℕ → Option (List ℕ)) (old new : List ℕ) (reply : Reply) → IsAnswerTo words file reply → new ≡ old ++ reply.text → WritesTruly words file old new
+writes_truly words file old new reply a e accepted =
+    subst (λ text. SaysEqualTruly accepted.files.library accepted.files.source text) (sym (written old reply.text new e)) (a.truly accepted)
+
+-- a first part of what is so
+pub part_writes_truly : (words : List (List ℕ)) (file : List ℕ → Option (List ℕ)) (old new text : List ℕ) → SpeaksTruly words file text → AppendsPart old new text → WritesTruly words file old new
+part_writes_truly words file old new text truly part accepted =
+    let whole : take part.0 text ++ drop part.0 text ≡ text = take-append-drop part.0 text in
+    let front = part_truly accepted.files.library accepted.files.source (take part.0 text) (drop part.0 text)
+        (subst (λ t. SaysEqualTruly accepted.files.library accepted.files.source t) (sym whole) (truly accepted)) in
+    subst (λ t. SaysEqualTruly accepted.files.library accepted.files.source t) (sym (written old (take part.0 text) new part.2)) front
+
+-- nothing was written
+pub nothing_truly : (words : List (List ℕ)) (file : List ℕ → Option (List ℕ)) (old new : List ℕ) → new ≡ old → WritesTruly words file old new
+nothing_truly words file old new e accepted k said h =
+    let none : drop (length old) new ≡ [] = written old [] new (e ∙ sym (append-nil old)) in
+    let nothing : slice_get (cells_compared []) k ≡ Some said = sym (ap (λ t. slice_get (cells_compared t) k) none) ∙ h in
+    absurd (no_cells k said nothing)
+  where
+    no_cells : (k : ℕ) (said : SaidCell) → slice_get (cells_compared []) k ≡ Some said → ⊥
+    unfolding lines_of cells_said
+    no_cells k said h = cc
 
 some_command : (command : Option Command) (words : List (List ℕ)) (file : List ℕ → Option (List ℕ)) (reply : Reply) → IsReplyTo command words file reply → reply.status ≡ FileRefused → IsSome command
 some_command None words file reply o e = absurd (let f : Usage ≡ FileRefused = sym (ap (λ (r : Reply). r.status) o) ∙ e in cc)

@@ -12,13 +12,14 @@ use Rattle.compare_text.specs.Text.{verdict_of, with_verdict, totals_of, AreComp
 use Rattle.qual_core.specs.Command.{command_of, name_beside}
 use Rattle.qual_core.specs.Files.{IsLibraryRead, IsSourceRead}
 use Rattle.qual_core.specs.Outcome.{totals_status, IsCompared, IsSecondReply, verilog_refused, compared, IsFirstReply, liberty_refused, liberty_read, IsCompareReply, IsReplyTo, IsOutcome}
-use Rattle.qual_core.specs.Top.{IsDoneOrFaulty, AreBothRead, AreAccepted, AreFoundEqual, JudgesExactly}
+use Rattle.qual_core.specs.Top.{IsDoneOrFaulty, AreBothRead, AreAccepted, AreFoundEqual, AreEqual, IsEqualLibrary, JudgesExactly}
 use Rattle.qual_core.specs.declared.command.Command.{Command}
 use Rattle.qual_core.specs.declared.command.FileOption.TheVariants.{Liberty, Verilog}
 use Rattle.qual_core.specs.declared.reply.Reply.{Reply}
 use Rattle.qual_core.specs.declared.reply.Status.TheVariants.{Done, Faulty}
 use Rattle.qual_core.proofs.OneOutcome.{library_once, source_once, same_ok, ok_or_err, one_text}
-use Rattle.qual_core.proofs.Replying.{outcome_named}
+use Rattle.qual_core.proofs.Replying.{outcome_named, compare_name}
+use Rattle.cell_compare.proofs.Equal.{equal_part}
 
 -- ---- totals
 
@@ -107,7 +108,7 @@ accepted_compared : (words : List (List ℕ)) (file : List ℕ → Option (List 
 accepted_compared words file reply a o = go (command_of words) refl o
   where
     go : (command : Option Command) → command_of words ≡ command → IsReplyTo command words file reply → IsCompared a.files.library a.files.source reply
-    go None e h = absurd (let some = rw e at a.command in cc)
+    go None e h = absurd (let never : ⊥ = rw e at a.compares in never)
     go (Some c) e h = both_compared (name_beside words Liberty) (name_beside words Verilog) file reply a.files (outcome_named c.name words file reply h)
 
 -- ---- a status of compared files
@@ -145,7 +146,7 @@ compared_accepted words file reply o d = go (command_of words) refl o
     go (Some c) e h =
         let k = outcome_named c.name words file reply h in
         let both = compared_both (name_beside words Liberty) (name_beside words Verilog) file k.0 reply k.1 d k.2 in
-        (record { command = rw e (search rules); files = both.0 }, both.1)
+        (record { compares = rw e (compare_name c.name); files = both.0 }, both.1)
 
 -- ---- the verdict
 
@@ -160,3 +161,12 @@ judges_exactly words file reply no_fault o = record {
       (c.0, λ h. let f : Done ≡ Faulty = sym (equal_found c.0.files.library c.0.files.source reply c.1 h) ∙ e in cc);
   faulty_comes = λ a differs nf. inl (else_faulty a.files.library a.files.source reply (accepted_compared words file reply a o) differs);
 }
+
+found_are_equal : (parts : List CellPart) (source : Source) → AreFoundEqual parts source → AreEqual parts source
+found_are_equal [] source h = tt
+found_are_equal (p ∷ parts) source h = (equal_part p source h.0.0 h.0.1 h.0.2, found_are_equal parts source h.1)
+
+pub done_is_equal : (words : List (List ℕ)) (file : List ℕ → Option (List ℕ)) (reply : Reply) → IsOutcome words file reply → reply.status ≡ Done → IsEqualLibrary words file
+done_is_equal words file reply o e =
+    let done = (judges_exactly words file reply (Unit {0}) o).done e in
+    (done.0, found_are_equal done.0.files.library.cells done.0.files.source done.1)

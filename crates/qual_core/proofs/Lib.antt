@@ -6,3 +6,5 @@ pub mod Ends
 pub mod OneOutcome
 pub mod Judging
 pub mod Driving
+pub mod Named
+pub mod Kept

@@ -2,7 +2,7 @@
 use Rattle.std.proofs.Common.{◌≡◌, ◌<◌, ◌+◌, ℕ, zero, suc, get_or, String, string_bytes, List, [], ◌∷◌, length, Option, Some, None, Result, IfOk, Bool, true, false, ◌&&◌, refl, ap, arith, bytes_eq, codes}
 use Rattle.std.specs.declared.alloc.Global.{Global}
 use Rattle.qual_core.specs.Names.{is_among}
-use Rattle.qual_core.specs.Command.{texts, options, option_word, files_needed, are_options_of, has_needed, place_from, files_named, name_of, named_command, command_of, word_at, name_beside, names}
+use Rattle.qual_core.specs.Command.{texts, options, option_word, file_option, all_files, are_options_of, has_needed, place_from, files_named, name_of, named_command, command_of, word_at, name_beside, names}
 use Rattle.qual_core.specs.Top.{IsCompareAnswer}
 use Rattle.qual_core.specs.declared.reply.Reply.{Reply}
 use Rattle.qual_core.specs.declared.files.Failure.{Failure}
@@ -49,12 +49,12 @@ and_right : (a b : Bool) → a && b ≡ true → b ≡ true
 and_right true b h = h
 and_right false b h = cc
 
-needed : (word : List ℕ) (rest : List (List ℕ)) (c : Command) → has_needed Compare rest ≡ true → c ≡ record { name = Compare; files = files_named (word ∷ rest) (files_needed Compare) } → Compared (word ∷ rest) c
+needed : (word : List ℕ) (rest : List (List ℕ)) (c : Command) → has_needed Compare rest ≡ true → c ≡ record { name = Compare; files = files_named (word ∷ rest) all_files } → Compared (word ∷ rest) c
 needed word rest c h e =
-    let has : FileOption → Bool = λ file. is_among (options rest) (option_word file) in
+    let has : FileOption → Bool = λ file. is_among (options rest) (file_option file) in
     let others : Bool = has Verilog && true in
-    let l : PlacedAt 1 rest (option_word Liberty) = placed 1 rest (option_word Liberty) (and_left (has Liberty) others h) in
-    let v : PlacedAt 1 rest (option_word Verilog) = placed 1 rest (option_word Verilog) (and_left (has Verilog) true (and_right (has Liberty) others h)) in
+    let l : PlacedAt 1 rest (file_option Liberty) = placed 1 rest (file_option Liberty) (and_left (has Liberty) others h) in
+    let v : PlacedAt 1 rest (file_option Verilog) = placed 1 rest (file_option Verilog) (and_left (has Verilog) true (and_right (has Liberty) others h)) in
     record {
       liberty = l.place;
       verilog = v.place;

@@ -6,7 +6,7 @@ use Rattle.liberty_source.specs.declared.Library.{Library}
 use Rattle.verilog_source.specs.declared.Source.{Source}
 use Rattle.liberty_statements.specs.Answer as liberty
 use Rattle.file_rules.specs.Told as answers
-use Rattle.qual_core.specs.Files.{MAX_FILE, IsTold, refusal_words, refusal_line, IsRefusedFile, too_long, refused}
+use Rattle.qual_core.specs.Files.{MAX_FILE, IsTold, words_of, refusal_line, IsRefusedFile, too_long, refused}
 use Rattle.qual_core.specs.declared.command.FileOption.{FileOption}
 use Rattle.grammar.specs.Answers.{IsAnswer}
 use Rattle.liberty_statements.specs.Answer.{library_file, file_tokens}
@@ -61,12 +61,12 @@ module _ {X : Type 0} (file : FileOption) (bytes : List ℕ) (answers : Result X
   only_ok x fits one (Err line) (too_long l q) = absurd (omega arith)
   only_ok x fits one (Err line) (refused l e a t q) = absurd (apart _ _ x e refl refl (sym (one (Err e) t a)))
 
-  pub only_err : (e : FileRefusal) (line : List ℕ) → length bytes ≤ MAX_FILE → line ≡ refusal_line file (refusal_words e)
+  pub only_err : (e : FileRefusal) (line : List ℕ) → length bytes ≤ MAX_FILE → line ≡ refusal_line file (words_of e)
       → ((r : Result X FileRefusal) → IsToldResult r → answers r → r ≡ Err e) → (other : Result X (List ℕ)) → IsReadAs other → other ≡ Err line
   only_err e line fits told one (Ok y) h = absurd (apart _ _ y e refl refl (one (Ok y) tt h.1))
   only_err e line fits told one (Err other) (too_long l q) = absurd (omega arith)
   only_err e line fits told one (Err other) (refused l d a t q) =
-      ap (λ z. Err z) (q ∙ ap (λ k. refusal_line file (refusal_words k)) (same_err _ _ d e refl refl (one (Err d) t a)) ∙ sym told)
+      ap (λ z. Err z) (q ∙ ap (λ k. refusal_line file (words_of k)) (same_err _ _ d e refl refl (one (Err d) t a)) ∙ sym told)
 
   pub only_long : (line : List ℕ) → MAX_FILE < length bytes → line ≡ refusal_line file (codes "too long") → (other : Result X (List ℕ)) → IsReadAs other → other ≡ Err line
   only_long line long told (Ok y) h = absurd (let f = h.0 in omega arith)

@@ -1,5 +1,5 @@
 -- How the reply is put together.
-use Rattle.std.proofs.Common.{◌≡◌, ◌&&◌, ◌==◌, ℕ, List, Option, Some, None, Result, Ok, Err, IfOk, true, false, if◌then◌else◌, refl, sym, ap, subst, rules}
+use Rattle.std.proofs.Common.{◌≡◌, IsSome, ◌&&◌, ◌==◌, ℕ, List, Option, Some, None, Result, Ok, Err, IfOk, true, false, if◌then◌else◌, refl, sym, ap, subst, rules}
 use Rattle.liberty_source.specs.declared.Library.{Library}
 use Rattle.verilog_source.specs.declared.Source.{Source}
 use Rattle.compare_text.specs.declared.report.Totals.{Totals}
@@ -30,6 +30,12 @@ source_is file read other bytes s e h = s.only other (subst (λ b. IsSourceRead 
 ok_or_err : {A B : Type 0} (r s : Result A B) (a : A) (b : B) → r ≡ Ok a → s ≡ Err b → r ≡ s → ⊥
 ok_or_err r s a b p q e = cc
 
+some_ok : {A B : Type 0} (r s : Result A B) (a b : A) → r ≡ Ok a → s ≡ Ok b → r ≡ s → a ≡ b
+some_ok r s a b p q e = cc
+
+same_truth : (text : List ℕ) (library other : Library) (source another : Source) → other ≡ library → another ≡ source → SaysEqualTruly library source text → SaysEqualTruly other another text
+same_truth text library other source another e f h = subst (λ l. SaysEqualTruly l another text) (sym e) (subst (λ s. SaysEqualTruly library s text) (sym f) h)
+
 -- what holds of a reply by three facts
 pub three_ok : (r : Result Reply Failure) (P Q R S : Reply → Type 0) → ((x : Reply) → P x → Q x → R x → S x) → IfOk r P → IfOk r Q → IfOk r R → IfOk r S
 three_ok (Err e) P Q R S f p q t = search rules
@@ -40,7 +46,7 @@ module _ (liberty verilog : List ℕ) (file : List ℕ → Option (List ℕ)) wh
   first_refused line l = record {
     is = (l.bytes, l.there, liberty_refused line l.is refl);
     refused_exactly = λ other h. refl;
-    truly = λ d. absurd d;
+    truly = λ a. absurd (ok_or_err (Ok a.library) (Err line) a.library line refl refl (library_is (file liberty) (Err line) (Ok a.library) a.liberty_bytes l a.liberty_there a.is_library));
     accepted = λ a. absurd (ok_or_err (Ok a.library) (Err line) a.library line refl refl (library_is (file liberty) (Err line) (Ok a.library) a.liberty_bytes l a.liberty_there a.is_library));
   }
 
@@ -48,7 +54,7 @@ module _ (liberty verilog : List ℕ) (file : List ℕ → Option (List ℕ)) wh
   second_refused library line l s = record {
     is = (l.bytes, l.there, liberty_read library l.is s.bytes s.there (verilog_refused line s.is refl));
     refused_exactly = λ other h. refl;
-    truly = λ d. absurd d;
+    truly = λ a. absurd (ok_or_err (Ok a.source) (Err line) a.source line refl refl (source_is (file verilog) (Err line) (Ok a.source) a.verilog_bytes s a.verilog_there a.is_source));
     accepted = λ a. absurd (ok_or_err (Ok a.source) (Err line) a.source line refl refl (source_is (file verilog) (Err line) (Ok a.source) a.verilog_bytes s a.verilog_there a.is_source));
   }
 
@@ -68,19 +74,9 @@ module _ (liberty verilog : List ℕ) (file : List ℕ → Option (List ℕ)) wh
   both_compared library source reply l s c d truly = record {
     is = (l.bytes, l.there, liberty_read library l.is s.bytes s.there (compared source s.is c));
     refused_exactly = λ line h. absurd (no_first library source h.0 line l s h.1 h.2);
-    truly = λ done. (
-      record {
-        liberty_bytes = l.bytes;
-        verilog_bytes = s.bytes;
-        library = library;
-        source = source;
-        liberty_there = l.there;
-        verilog_there = s.there;
-        is_library = l.is;
-        is_source = s.is;
-      },
-      truly,
-    );
+    truly = λ a. same_truth reply.text library a.library source a.source
+        (some_ok (Ok a.library) (Ok library) a.library library refl refl (library_is (file liberty) (Ok library) (Ok a.library) a.liberty_bytes l a.liberty_there a.is_library))
+        (some_ok (Ok a.source) (Ok source) a.source source refl refl (source_is (file verilog) (Ok source) (Ok a.source) a.verilog_bytes s a.verilog_there a.is_source)) truly;
     accepted = λ a. d;
   }
 
@@ -93,9 +89,12 @@ pub usage_answer : (words : List (List ℕ)) (file : List ℕ → Option (List �
 usage_answer words file reply e f = record {
   outcome = only_outcome words file reply (rw e f);
   refused_exactly = λ line r. absurd (let h = rw e at r.0 in cc);
-  truly = λ d. absurd (let h = rw f at d in h);
-  accepted = λ a. absurd (let h = rw e at a.command in cc);
+  truly = λ a. absurd (let h : ⊥ = rw e at a.compares in h);
+  accepted = λ a. absurd (let h : ⊥ = rw e at a.compares in h);
 }
+
+pub compare_name : (name : CommandName) → name ≡ Compare
+compare_name Compare = refl
 
 named_outcome : (name : CommandName) (words : List (List ℕ)) (file : List ℕ → Option (List ℕ)) (reply : Reply) → IsCompareReply (name_beside words Liberty) (name_beside words Verilog) file reply → IsReplyOf name words file reply
 named_outcome Compare words file reply h = h
@@ -108,6 +107,20 @@ pub compare_answer : (words : List (List ℕ)) (c : Command) (file : List ℕ �
 compare_answer words c file reply e h = record {
   outcome = only_outcome words file reply (rw e (named_outcome c.name words file reply h.is));
   refused_exactly = λ line r. h.refused_exactly line (outcome_named c.name words file (refused line) (rw e at r.1));
-  truly = λ d. let t = h.truly d in (record { command = rw e (search rules); files = t.0 }, t.1);
+  truly = λ a. h.truly a.files;
   accepted = λ a. h.accepted a.files;
 }
+
+-- ---- which files are there where there is a reply
+
+pub liberty_there : (liberty verilog : List ℕ) (file : List ℕ → Option (List ℕ)) (reply : Reply) → IsCompareReply liberty verilog file reply → IsSome (file liberty)
+liberty_there liberty verilog file reply h = rw h.1 (search rules)
+
+second_there : (library : Library) (bytes : List ℕ) (second : Option (List ℕ)) (reply : Reply) → ((other : Result Library (List ℕ)) → IsLibraryRead bytes other → other ≡ Ok library) → IsFirstReply bytes second reply → IsSome second
+second_there library bytes second reply only (liberty_refused line h e) = absurd (ok_or_err (Ok library) (Err line) library line refl refl (sym (only (Err line) h)))
+second_there library bytes second reply only (liberty_read other h text there next) = rw there (search rules)
+
+-- the Verilog file is asked for only where the Liberty file is read
+pub verilog_there : (library : Library) (liberty verilog : List ℕ) (file : List ℕ → Option (List ℕ)) (reply : Reply) → IsLibraryOf (file liberty) (Ok library) → IsCompareReply liberty verilog file reply → IsSome (file verilog)
+verilog_there library liberty verilog file reply l h =
+    second_there library h.0 (file verilog) reply (λ other k. library_is (file liberty) (Ok library) other h.0 l h.1 k) h.2

@@ -4,7 +4,7 @@ use Rattle.std.specs.List.{list_all}
 use Rattle.std.proofs.Math.Seq.{take-length}
 use Rattle.std.specs.declared.alloc.Global.{Global}
 use Rattle.qual_core.specs.Names.{is_among, is_distinct}
-use Rattle.qual_core.specs.Command.{texts, options, values, are_pairs, option_word, files_needed, is_file_name, is_option_of, are_options_of, place_from}
+use Rattle.qual_core.specs.Command.{texts, options, pairs, are_pairs, is_pair_of, is_option_of, are_options_of, place_from}
 use Rattle.qual_core.specs.declared.command.CommandName.{CommandName}
 
 pub options-short : (w : List (String Global)) → length w < 2 → options (texts w) ≡ []
@@ -56,28 +56,31 @@ place-next whole n w wanted d h k e f =
 
 pub ruleset word_lemmas = (options-short, options-step, place-short, place-now)
 
-and-false : (a b : Bool) → a && false && b ≡ false
-and-false true b = refl
-and-false false b = refl
-
-and-last : (a : Bool) → a && false ≡ false
-and-last true = refl
-and-last false = refl
-
--- the four tests of a first pair and of the pairs behind it
-regrouped : (p d k v known again named : Bool) → p && (not again && d) && (known && k) && (named && v) ≡ (known && not again && named) && (p && d && k && v)
-regrouped p d k v true true named = rw and-false refl
-regrouped p d k v true false true = refl
-regrouped p d k v true false false = and-last _
-regrouped p d k v false again named = and-false _ (named && v)
+-- the tests of a first pair and of the pairs behind it
+regrouped : (p d k pair again : Bool) → p && (not again && d) && (pair && k) ≡ (pair && not again) && (p && d && k)
+regrouped true true true true true = refl
+regrouped true true true true false = refl
+regrouped true true true false true = refl
+regrouped true true true false false = refl
+regrouped true true false true true = refl
+regrouped true true false true false = refl
+regrouped true true false false true = refl
+regrouped true true false false false = refl
+regrouped true false k true true = refl
+regrouped true false k true false = refl
+regrouped true false k false true = refl
+regrouped true false k false false = refl
+regrouped false d k true true = refl
+regrouped false d k true false = refl
+regrouped false d k false true = refl
+regrouped false d k false false = refl
 
 options-split : (name : CommandName) (w : List (String Global)) (d : String Global) → 2 ≤ length w → are_options_of name (texts w) ≡ is_option_of name (string_bytes (get_or w 0 d)) (string_bytes (get_or w 1 d)) (texts (drop 2 w)) && are_options_of name (texts (drop 2 w))
 options-split name [] d h = absurd (omega arith)
 options-split name (a ∷ []) d h = absurd (omega arith)
 options-split name (a ∷ b ∷ w) d h =
-    regrouped (are_pairs (texts w)) (is_distinct (options (texts w)))
-    (list_all (is_among (map option_word (files_needed name))) (options (texts w))) (list_all is_file_name (values (texts w)))
-    (is_among (map option_word (files_needed name)) (string_bytes a)) (is_among (options (texts w)) (string_bytes a)) (is_file_name (string_bytes b))
+    regrouped (are_pairs (texts w)) (is_distinct (options (texts w))) (list_all (is_pair_of name) (pairs (texts w)))
+    (is_pair_of name (string_bytes a, string_bytes b)) (is_among (options (texts w)) (string_bytes a))
 
 pub options_end : (name : CommandName) (w : List (String Global)) → length w < 2 → are_options_of name (texts w) ≡ (length w == 0)
 options_end name [] h = refl

@@ -2,7 +2,8 @@
 use Rattle.std.specs.Prelude.{◌≡◌, ◌≤◌, ◌<◌, ℕ, List, ◌++◌, [], Result, Ok, Err, codes, decimal, length, ◌∷◌}
 use Rattle.text_scan.specs.declared.refusal.FileRefusal.{FileRefusal}
 use Rattle.text_scan.specs.declared.refusal.FileRefusal.TheVariants.{NoMemory, Syntax, TooMany, DoubleName}
-use Rattle.text_scan.specs.Limits.{standard, word_of}
+use Rattle.text_scan.specs.Limits.{standard}
+use Rattle.text_scan.specs.Refusals.{refusal_words}
 use Rattle.liberty_source.specs.declared.Library.{Library}
 use Rattle.verilog_source.specs.declared.Source.{Source}
 use Rattle.liberty_reader.specs.Promise as liberty
@@ -31,11 +32,9 @@ IsTold (Syntax line column) = Unit {0}
 IsTold (TooMany kind number) = Unit {0}
 IsTold (DoubleName name line) = Unit {0}
 
-abbrev pub refusal_words : FileRefusal → List ℕ
-refusal_words NoMemory = []
-refusal_words (Syntax line column) = codes "syntax line " ++ decimal line ++ codes " column " ++ decimal column
-refusal_words (TooMany kind number) = codes "too many " ++ word_of kind ++ codes " " ++ decimal number
-refusal_words (DoubleName name line) = codes "double name " ++ name ++ codes " line " ++ decimal line
+-- the words of a refusal, with names as they stand
+abbrev pub words_of : FileRefusal → List ℕ
+words_of refusal = refusal_words (λ name. name) refusal
 
 -- the line of a file that is refused
 abbrev pub refusal_line : FileOption → List ℕ → List ℕ
@@ -44,7 +43,7 @@ refusal_line file words = codes "refused " ++ file_word file ++ codes " " ++ wor
 -- A file is refused where it is too long, or by its reader.
 pub data IsRefusedFile (answers : FileRefusal → Type 0) (file : FileOption) (bytes line : List ℕ) : Type 0 where
   too_long : MAX_FILE < length bytes → line ≡ refusal_line file (codes "too long") → IsRefusedFile answers file bytes line
-  refused : length bytes ≤ MAX_FILE → (e : FileRefusal) → answers e → IsTold e → line ≡ refusal_line file (refusal_words e) → IsRefusedFile answers file bytes line
+  refused : length bytes ≤ MAX_FILE → (e : FileRefusal) → answers e → IsTold e → line ≡ refusal_line file (words_of e) → IsRefusedFile answers file bytes line
 
 -- the library of a file, or the line of its refusal
 abbrev pub IsLibraryRead : List ℕ → Result Library (List ℕ) → Type 0

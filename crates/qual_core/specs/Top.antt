@@ -1,5 +1,5 @@
 -- What a run answers, writes and asks for.
-use Rattle.std.specs.Prelude.{◌≡◌, ◌≤◌, ◌<◌, ◌+◌, ◌++◌, ◌⊎◌, ℕ, max, List, [], ◌∷◌, Option, Some, None, Bool, if◌then◌else◌, IsTrue, IsSome, IsSomeAnd, Vec, length, Result, Ok}
+use Rattle.std.specs.Prelude.{◌≡◌, ◌≤◌, ◌<◌, ◌+◌, ◌++◌, ◌⊎◌, ℕ, max, List, [], ◌∷◌, Option, Some, None, Bool, if◌then◌else◌, IsTrue, IsSome, IsSomeAnd, Vec, length, drop, Result, Ok}
 use Rattle.std.specs.declared.alloc.Global.{Global}
 use Rattle.desk_ports.specs.Faults.{Rose}
 use Rattle.desk_ports.specs.Sink.{AppendsPart}
@@ -9,12 +9,13 @@ use Rattle.qual_core.specs.Files.{MAX_FILE, IsLibraryRead, IsSourceRead}
 use Rattle.qual_core.specs.Outcome.{usage, refused, IsCompareReply, IsOutcome}
 use Rattle.cell_compare.specs.declared.comparison.Comparison.{Comparison}
 use Rattle.cell_compare.specs.Compare.{IsComparison}
-use Rattle.cell_compare.specs.Equal.{SaysEqual}
+use Rattle.cell_compare.specs.Equal.{SaysEqual, IsEqualPart}
 use Rattle.compare_text.specs.Blocks.{SaysEqualTruly}
 use Rattle.liberty_source.specs.declared.CellPart.{CellPart}
 use Rattle.liberty_source.specs.declared.Library.{Library}
 use Rattle.verilog_source.specs.declared.Source.{Source}
 use Rattle.qual_core.specs.declared.command.Command.{Command}
+use Rattle.qual_core.specs.declared.command.CommandName.TheVariants.{Compare}
 use Rattle.qual_core.specs.declared.command.FileOption.TheVariants.{Liberty, Verilog}
 use Rattle.qual_core.specs.declared.reply.Reply.{Reply}
 use Rattle.qual_core.specs.declared.reply.Status.{Status}
@@ -146,9 +147,14 @@ pub record AreBothRead (liberty verilog : List ℕ) (file : List ℕ → Option 
   pub is_library : IsLibraryRead liberty_bytes (Ok library)
   pub is_source : IsSourceRead verilog_bytes (Ok source)
 
--- the words are a command, and the files that they name are read
+-- the command is `compare`
+abbrev pub IsCompare : Option Command → Type 0
+IsCompare None = ⊥
+IsCompare (Some c) = c.name ≡ Compare
+
+-- the words are a comparison, and both files that they name are read
 pub record AreAccepted (words : List (List ℕ)) (file : List ℕ → Option (List ℕ)) : Type 0 where
-  pub command : IsSome (command_of words)
+  pub compares : IsCompare (command_of words)
   pub files : AreBothRead (name_beside words Liberty) (name_beside words Verilog) file
 
 -- each cell was found equal
@@ -167,22 +173,27 @@ pub record JudgesExactly (status : Status) (words : List (List ℕ)) (file : Lis
   pub faulty : status ≡ Faulty → (a : AreAccepted words file) × (AreAllEqual a → ⊥)
   pub faulty_comes : (a : AreAccepted words file) → (AreAllEqual a → ⊥) → no_fault → IsOrNoMemory status Faulty
 
+-- each cell is equal
+abbrev pub AreEqual : List CellPart → Source → Type 0
+AreEqual [] source = Unit {0}
+AreEqual (p ∷ parts) source = IsEqualPart p source × AreEqual parts source
+
+-- both files are read, and each cell of the library is equal to its module
+abbrev pub IsEqualLibrary : List (List ℕ) → (List ℕ → Option (List ℕ)) → Type 0
+IsEqualLibrary words file = (a : AreAccepted words file) × AreEqual a.files.library.cells a.files.source
+
 abbrev pub IsDoneOrFaulty : Status → Type 0
 IsDoneOrFaulty Done = Unit {0}
 IsDoneOrFaulty Faulty = Unit {0}
 IsDoneOrFaulty status = ⊥
 
--- Where the reply is a comparison, both files are read, and what its text says of a cell that is equal is so.
-abbrev pub SpeaksTruly : List (List ℕ) → (List ℕ → Option (List ℕ)) → Reply → Type 0
-SpeaksTruly words file reply =
-    IsDoneOrFaulty reply.status → (a : AreAccepted words file) × SaysEqualTruly a.files.library a.files.source reply.text
+-- where both files are read, the text says of their cells what is so
+abbrev pub SpeaksTruly : List (List ℕ) → (List ℕ → Option (List ℕ)) → List ℕ → Type 0
+SpeaksTruly words file text = (a : AreAccepted words file) → SaysEqualTruly a.files.library a.files.source text
 
--- the same of what was written, a part of it where the sink has failed
-abbrev pub WritesTruly : Status → List (List ℕ) → (List ℕ → Option (List ℕ)) → List ℕ → List ℕ → Type 0
-WritesTruly Done words file old new = (a : AreAccepted words file) × (text : List ℕ) × (new ≡ old ++ text) × SaysEqualTruly a.files.library a.files.source text
-WritesTruly Faulty words file old new = (a : AreAccepted words file) × (text : List ℕ) × (new ≡ old ++ text) × SaysEqualTruly a.files.library a.files.source text
-WritesTruly WriteFault words file old new = (reply : Reply) × AppendsPart old new reply.text × SpeaksTruly words file reply
-WritesTruly status words file old new = Unit {0}
+-- the same of the bytes that were written behind the old ones
+abbrev pub WritesTruly : List (List ℕ) → (List ℕ → Option (List ℕ)) → List ℕ → List ℕ → Type 0
+WritesTruly words file old new = SpeaksTruly words file (drop (length old) new)
 
 -- ---- what the calls below answer
 
@@ -190,14 +201,14 @@ WritesTruly status words file old new = Unit {0}
 pub record IsCompareAnswer (liberty verilog : List ℕ) (file : List ℕ → Option (List ℕ)) (reply : Reply) : Type 0 where
   pub is : IsCompareReply liberty verilog file reply
   pub refused_exactly : (line : List ℕ) → IsCompareReply liberty verilog file (refused line) → reply.status ≡ FileRefused
-  pub truly : IsDoneOrFaulty reply.status → (a : AreBothRead liberty verilog file) × SaysEqualTruly a.library a.source reply.text
+  pub truly : (a : AreBothRead liberty verilog file) → SaysEqualTruly a.library a.source reply.text
   pub accepted : AreBothRead liberty verilog file → IsDoneOrFaulty reply.status
 
 -- the reply for the words
 pub record IsAnswerTo (words : List (List ℕ)) (file : List ℕ → Option (List ℕ)) (reply : Reply) : Type 0 where
   pub outcome : IsOnly (IsOutcome words file) reply
   pub refused_exactly : (line : List ℕ) → IsRefusal words file line → reply.status ≡ FileRefused
-  pub truly : SpeaksTruly words file reply
+  pub truly : SpeaksTruly words file reply.text
   pub accepted : AreAccepted words file → IsDoneOrFaulty reply.status
 
 -- the whole text of the one outcome was written, and the status is Done or Faulty as it says

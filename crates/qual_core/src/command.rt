@@ -1,7 +1,8 @@
 // The command that the words say.
-ghost use Rattle.std.specs.Prelude.{◌≡◌, ◌++◌, ◌<◌, ◌^◌, [], length, map, IfOk, OnOk, Some, None, if◌then◌else◌, bytes_eq};
+ghost use Rattle.std.specs.Prelude.{◌≡◌, ◌++◌, ◌<◌, ◌^◌, [], length, IfOk, OnOk, Some, None, if◌then◌else◌, bytes_eq};
 ghost use Rattle.qual_core.specs.Names.{is_among};
-ghost use Rattle.qual_core.specs.Command.{texts, file_word, option_word, files_needed, is_file_name, options, is_option_of, are_options_of, has_needed, place_from, place_of, with_place, files_named, name_of, command_of, command_word};
+ghost use Rattle.qual_core.specs.Command as spec;
+ghost use Rattle.qual_core.specs.Command.{texts, options, place_from, with_place};
 
 use std::alloc::Global;
 use text_scan::{Items, NoMemory, Text};
@@ -20,6 +21,13 @@ pub(crate) enum FileOption {
     Verilog,
 }
 
+/// An option of a command.
+#[derive(Clone, Copy, Debug, PartialEq, Eq)]
+pub(crate) enum CommandOption {
+    /// Its value is the name of a file.
+    File(FileOption),
+}
+
 /// A command with what it is to be done on.
 #[derive(Debug, Drop)]
 pub struct Command {
@@ -31,26 +39,55 @@ pub struct Command {
 
 impl CommandName {
     fn word(self) -> &'static str
-        ensures { result.now ≡ command_word self }
+        ensures { result.now ≡ spec.command_word self }
     {
         match self {
             CommandName::Compare => "compare",
         }
     }
 
-    // The files that are needed, in reading order.
-    fn files_needed(self) -> &'static [FileOption]
-        ensures { result.now ≡ files_needed self }
+    // The options that the command must have.
+    fn needed(self) -> &'static [CommandOption]
+        ensures { result.now ≡ spec.needed self }
     {
         match self {
-            CommandName::Compare => &[FileOption::Liberty, FileOption::Verilog],
+            CommandName::Compare => &[
+                CommandOption::File(FileOption::Liberty),
+                CommandOption::File(FileOption::Verilog),
+            ],
+        }
+    }
+
+    // The options that the command may have.
+    fn optional(self) -> &'static [CommandOption]
+        ensures { result.now ≡ spec.optional self }
+    {
+        match self {
+            CommandName::Compare => &[],
+        }
+    }
+
+    // The command's option of this word.
+    fn option_of(self, word: &str) -> Option<CommandOption>
+        ensures { result ≡ spec.option_of self word.now }
+    {
+        match option_among(self.needed(), word) {
+            Some(option) => Some(option),
+            None => option_among(self.optional(), word),
         }
     }
 }
 
 impl FileOption {
+    // The files that options may name, in reading order.
+    fn all() -> &'static [FileOption]
+        ensures { result.now ≡ spec.all_files }
+    {
+        &[FileOption::Liberty, FileOption::Verilog]
+    }
+
     pub(crate) fn word(self) -> &'static str
-        ensures { result.now ≡ file_word self }
+        ensures { result.now ≡ spec.file_word self }
     {
         match self {
             FileOption::Liberty => "liberty",
@@ -59,7 +96,7 @@ impl FileOption {
     }
 
     fn option(self) -> &'static str
-        ensures { result.now ≡ option_word self }
+        ensures { result.now ≡ spec.file_option self }
     {
         match self {
             FileOption::Liberty => "--liberty",
@@ -68,10 +105,41 @@ impl FileOption {
     }
 }
 
+impl CommandOption {
+    fn word(self) -> &'static str
+        ensures { result.now ≡ spec.option_word self }
+    {
+        match self {
+            CommandOption::File(file) => file.option(),
+        }
+    }
+
+    // Whether the option takes the value.
+    fn takes(self, value: &str) -> bool
+        ensures { result ≡ spec.is_value_of self value.now }
+    {
+        match self {
+            CommandOption::File(_) => is_file_name(value),
+        }
+    }
+}
+
 fn is_file_name(word: &str) -> bool
-    ensures { result ≡ is_file_name word.now }
+    ensures { result ≡ spec.is_file_name word.now }
 {
     1 <= word.len() && word.len() <= 4096
+}
+
+// The option of this word.
+fn option_among(options: &[CommandOption], word: &str) -> Option<CommandOption>
+    ensures { result ≡ spec.option_among options.now word.now }
+{
+    for option in options {
+        if option.word() == word {
+            return Some(*option);
+        }
+    }
+    None
 }
 
 // Whether the option is one of the pairs.
@@ -89,29 +157,20 @@ fn has_option(pairs: &[String], wanted: &str) -> bool
     false
 }
 
-// Whether the command has the option.
-fn is_known(name: CommandName, option: &str) -> bool
-    ensures { result ≡ is_among (map option_word (files_needed name)) option.now }
-{
-    for file in name.files_needed() {
-        if file.option() == option {
-            return true;
-        }
-    }
-    false
-}
-
-// Whether the command has the option, it doesn't come again, and the value is the name of a file.
+// Whether the command has the option, it takes the value, and it doesn't come again.
 fn is_option_of(name: CommandName, option: &str, value: &str, rest: &[String]) -> bool
-    ensures { result ≡ is_option_of name option.now value.now (texts rest.now) }
+    ensures { result ≡ spec.is_option_of name option.now value.now (texts rest.now) }
 {
-    is_known(name, option) && !has_option(rest, option) && is_file_name(value)
+    match name.option_of(option) {
+        Some(known) => known.takes(value) && !has_option(rest, option),
+        None => false,
+    }
 }
 
-// Whether the words are pairs of the command's options and names of files, with no option twice.
+// Whether the words are pairs of the command's options and values that they take, with no option twice.
 #[tactic(auto, using(crate::proofs::Words::options_end))]
 fn are_options_of(name: CommandName, pairs: &[String]) -> bool
-    ensures { result ≡ are_options_of name (texts pairs.now) }
+    ensures { result ≡ spec.are_options_of name (texts pairs.now) }
 {
     let mut left = pairs;
     while let [option, value, rest @ ..] = left {
@@ -126,10 +185,10 @@ fn are_options_of(name: CommandName, pairs: &[String]) -> bool
 
 // Whether each option that the command needs is there.
 fn has_needed(name: CommandName, pairs: &[String]) -> bool
-    ensures { result ≡ has_needed name (texts pairs.now) }
+    ensures { result ≡ spec.has_needed name (texts pairs.now) }
 {
-    for file in name.files_needed() {
-        if !has_option(pairs, file.option()) {
+    for option in name.needed() {
+        if !has_option(pairs, option.word()) {
             return false;
         }
     }
@@ -153,7 +212,7 @@ fn place_in(pairs: &[String], wanted: &str) -> Option<usize>
 }
 
 fn place_of(words: &[String], wanted: &str) -> Option<usize>
-    ensures { result ≡ place_of (texts words.now) wanted.now }
+    ensures { result ≡ spec.place_of (texts words.now) wanted.now }
 {
     let [_, pairs @ ..] = words else {
         return None;
@@ -162,7 +221,7 @@ fn place_of(words: &[String], wanted: &str) -> Option<usize>
 }
 
 fn name_of(word: &str) -> Option<CommandName>
-    ensures { result ≡ name_of word.now }
+    ensures { result ≡ spec.name_of word.now }
 {
     let name = CommandName::Compare;
     if word == name.word() {
@@ -179,7 +238,7 @@ fn add_file(
     file: FileOption,
     files: &mut Items<(Text, usize)>,
 ) -> Result<(), NoMemory>
-    ensures { OnOk result (files.new ≡ files.old ++ with_place file (place_of (texts words.now) (option_word file)) []) }
+    ensures { OnOk result (files.new ≡ files.old ++ with_place file (spec.place_of (texts words.now) (spec.file_option file)) []) }
 {
     if let Some(place) = place_of(words, file.option()) {
         let word = Text::from_bytes(alloc, file.word().as_bytes())?;
@@ -192,12 +251,11 @@ fn add_file(
 fn files_named(
     alloc: Global,
     words: &[String],
-    name: CommandName,
 ) -> Result<Items<(Text, usize)>, NoMemory>
-    ensures { IfOk result (λ files. files ≡ files_named (texts words.now) (files_needed name)) }
+    ensures { IfOk result (λ files. files ≡ spec.files_named (texts words.now) spec.all_files) }
 {
     let mut files = Items::new(alloc);
-    for file in name.files_needed() {
+    for file in FileOption::all() {
         add_file(alloc, words, *file, &mut files)?;
     }
     Ok(files)
@@ -207,7 +265,7 @@ fn files_named(
 /// a value in any order, each option at most once and each that the command needs once. A file's
 /// name has 1 to 4,096 bytes.
 pub fn command_of(alloc: Global, words: &[String]) -> Result<Option<Command>, NoMemory>
-    ensures { IfOk result (λ command. command ≡ command_of (texts words.now)) }
+    ensures { IfOk result (λ command. command ≡ spec.command_of (texts words.now)) }
 {
     let [word, pairs @ ..] = words else {
         return Ok(None);
@@ -218,6 +276,6 @@ pub fn command_of(alloc: Global, words: &[String]) -> Result<Option<Command>, No
     if !are_options_of(name, pairs) || !has_needed(name, pairs) {
         return Ok(None);
     }
-    let files = files_named(alloc, words, name)?;
+    let files = files_named(alloc, words)?;
     Ok(Some(Command { name, files }))
 }

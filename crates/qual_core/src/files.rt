@@ -2,7 +2,7 @@
 ghost use Rattle.std.specs.Prelude.{◌≡◌, ◌≤◌, ◌++◌, ◌∷◌, [], List, ℕ, Some, Result, Err, IsTrue, IsSome, IfOk, IfSome, OnOk, IsErrOf, codes, decimal, length, string_bytes};
 ghost use Rattle.liberty_source.specs.declared.Library.{Library};
 ghost use Rattle.verilog_source.specs.declared.Source.{Source};
-ghost use Rattle.qual_core.specs.Files.{MAX_FILE, IsTold, refusal_words, refusal_line, IsRefusedFile, IsLibraryRead, IsSourceRead, IsLibrary, IsSource};
+ghost use Rattle.qual_core.specs.Files.{MAX_FILE, IsTold, words_of, refusal_line, IsRefusedFile, IsLibraryRead, IsSourceRead, IsLibrary, IsSource};
 ghost use Rattle.qual_core.specs.Command.{file_word};
 ghost use Rattle.qual_core.specs.Top.{IsRead, IsLibraryOf, IsSourceOf, Blames, AsksFor};
 ghost use Rattle.qual_core.specs.declared.files.Failure.TheVariants.{NoMemory};
@@ -72,7 +72,7 @@ fn put_counted(
 }
 
 fn put_refusal(alloc: Global, text: &mut Vec<u8>, refusal: &FileRefusal) -> Result<(), Failure>
-    ensures ok { OnOk result (text.new.items ≡ text.old.items ++ refusal_words refusal.now) }
+    ensures ok { OnOk result (text.new.items ≡ text.old.items ++ words_of refusal.now) }
     ensures told { OnOk result (IsTold refusal.now) }
     ensures cause { IsErrOf result Failure.ReadFault → ⊥ }
 {
@@ -125,7 +125,7 @@ fn refusal_front(alloc: Global, file: FileOption) -> Result<Vec<u8>, Failure>
 }
 
 fn refused_line(alloc: Global, file: FileOption, refusal: &FileRefusal) -> Result<Text, Failure>
-    ensures line { IfOk result (λ line. line ≡ refusal_line file (refusal_words refusal.now)) }
+    ensures line { IfOk result (λ line. line ≡ refusal_line file (words_of refusal.now)) }
     ensures told { IfOk result (λ line. IsTold refusal.now) }
     ensures cause { IsErrOf result Failure.ReadFault → ⊥ }
 {

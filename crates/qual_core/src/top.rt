@@ -3,8 +3,12 @@ ghost use Rattle.std.specs.Prelude.{◌≡◌, ◌≢◌, ◌<◌, ◌++◌, ◌
 ghost use Rattle.desk_ports.specs.Faults.{NoneFails};
 ghost use Rattle.compare_text.specs.Blocks.{SaysEqualTruly};
 ghost use Rattle.qual_core.specs.Command.{texts, command_of, names, word_at};
-ghost use Rattle.qual_core.specs.Outcome.{usage, totals_status, IsCompared, refused, IsOutcome};
-ghost use Rattle.qual_core.specs.Top.{Blames, AsksFor, AreThere, IsVerdict, IsDoneOrFaulty, IsUsageOrVerdict, NoCountRose, UsageExactly, AnswersExactly, JudgesExactly, Writes, WritesTruly, AreAccepted, IsWhole, HasRoom, IsCompareAnswer, IsAnswerTo};
+ghost use Rattle.qual_core.specs.Outcome.{usage, totals_status, IsCompared, refused, IsCompareReply, IsOutcome};
+ghost use Rattle.qual_core.specs.declared.reply.Reply.{Reply};
+ghost use Rattle.text_scan.specs.declared.limits.Limits.{Limits};
+ghost use Rattle.liberty_source.specs.Library.{IsLibrary};
+ghost use Rattle.verilog_source.specs.Source.{IsSource};
+ghost use Rattle.qual_core.specs.Top.{Blames, AsksFor, IsVerdict, IsDoneOrFaulty, IsUsageOrVerdict, NoCountRose, UsageExactly, AnswersExactly, JudgesExactly, Writes, WritesTruly, IsCompare, IsEqualLibrary, AreAccepted, IsWhole, HasRoom, IsCompareAnswer, IsAnswerTo};
 ghost use Rattle.qual_core.specs.declared.files.Failure.TheVariants.{NoMemory};
 
 use crate::command::{Command, CommandName, command_of};
@@ -52,7 +56,8 @@ fn totals_status(totals: Totals) -> Status
 fn compared(alloc: Global, library: &Library, source: Source) -> Result<Reply, Failure>
     ensures compared { IfOk result (IsCompared library.now source) }
     ensures verdict { IfOk result (λ reply. IsDoneOrFaulty reply.status) }
-    ensures truly { IfOk result (λ reply. SaysEqualTruly library.now source reply.text) }
+    ensures truly { IfOk result (λ reply. (limits : Limits) → IsLibrary limits library.now → IsSource limits source
+        → SaysEqualTruly library.now source reply.text) }
     ensures cause { IsErrOf result Failure.ReadFault → ⊥ }
 {
     let models = Models::new(alloc, source)?;
@@ -83,7 +88,9 @@ fn compare_files<S: Shelf>(
     ensures verdict { IfOk result (λ reply. IsVerdict reply.status) }
     ensures cause { Blames (IsErrOf result Failure.ReadFault) (S.faults shelf.old) (S.faults shelf.new) }
     ensures succeeds { IsTrue S.tells → NoneFails (S.fails shelf.old)
-        → AreThere (S.file shelf.old) (liberty.now ∷ verilog.now ∷ []) → IsErrOf result Failure.ReadFault → ⊥ }
+        → (reply : Reply) → IsCompareReply liberty.now verilog.now (S.file shelf.old) reply → IsErrOf result Failure.ReadFault → ⊥ }
+    ensures none_missing { IsTrue S.tells → (reply : Reply) → IsCompareReply liberty.now verilog.now (S.file shelf.old) reply
+        → (S.asked shelf.new).missing ≡ (S.asked shelf.old).missing }
     ensures asked { IsTrue S.tells → AsksFor (liberty.now ∷ verilog.now ∷ []) (S.file shelf.old)
         (S.expects shelf.old) (S.asked shelf.old) (S.asked shelf.new) }
     ensures files { S.file shelf.new ≡ S.file shelf.old }
@@ -130,7 +137,9 @@ fn compare_named<S: Shelf>(
     ensures verdict { IfOk result (λ reply. IsVerdict reply.status) }
     ensures cause { Blames (IsErrOf result Failure.ReadFault) (S.faults shelf.old) (S.faults shelf.new) }
     ensures succeeds { IsTrue S.tells → NoneFails (S.fails shelf.old)
-        → AreThere (S.file shelf.old) (names (texts words.now)) → IsErrOf result Failure.ReadFault → ⊥ }
+        → (reply : Reply) → IsOutcome (texts words.now) (S.file shelf.old) reply → IsErrOf result Failure.ReadFault → ⊥ }
+    ensures none_missing { IsTrue S.tells → (reply : Reply) → IsOutcome (texts words.now) (S.file shelf.old) reply
+        → (S.asked shelf.new).missing ≡ (S.asked shelf.old).missing }
     ensures asked { IsTrue S.tells → AsksFor (names (texts words.now)) (S.file shelf.old)
         (S.expects shelf.old) (S.asked shelf.old) (S.asked shelf.new) }
     ensures files { S.file shelf.new ≡ S.file shelf.old }
@@ -147,7 +156,9 @@ fn reply_to<S: Shelf>(alloc: Global, words: &[String], shelf: &mut S) -> Result<
     ensures cause { Blames (IsErrOf result Failure.ReadFault) (S.faults shelf.old) (S.faults shelf.new) }
     ensures no_command { command_of (texts words.now) ≡ None → IsErrOf result Failure.ReadFault → ⊥ }
     ensures succeeds { IsTrue S.tells → NoneFails (S.fails shelf.old)
-        → AreThere (S.file shelf.old) (names (texts words.now)) → IsErrOf result Failure.ReadFault → ⊥ }
+        → (reply : Reply) → IsOutcome (texts words.now) (S.file shelf.old) reply → IsErrOf result Failure.ReadFault → ⊥ }
+    ensures none_missing { IsTrue S.tells → (reply : Reply) → IsOutcome (texts words.now) (S.file shelf.old) reply
+        → (S.asked shelf.new).missing ≡ (S.asked shelf.old).missing }
     ensures asked { IsTrue S.tells → AsksFor (names (texts words.now)) (S.file shelf.old)
         (S.expects shelf.old) (S.asked shelf.old) (S.asked shelf.new) }
     ensures files { S.file shelf.new ≡ S.file shelf.old }
@@ -171,10 +182,14 @@ pub fn qual<S: Shelf, K: Sink>(
     shelf: &mut S,
     out: &mut K,
 ) -> Status
-    // Where the text written says that a cell is equal, it is: each output that Liberty defines has its value in
+    // Where a line that was written says that a cell is equal, it is: each output that Liberty defines has its value in
     // Verilog, at every vector of input values.
     ensures equal { IsTrue S.tells → IsTrue K.tells
-        → WritesTruly result (texts words.now) (S.file shelf.old) (K.written out.old) (K.written out.new) }
+        → WritesTruly (texts words.now) (S.file shelf.old) (K.written out.old) (K.written out.new) }
+
+    // Done comes only where each cell of the library is equal.
+    ensures done_is_equal { IsTrue S.tells → IsCompare (command_of (texts words.now)) → result ≡ Status.Done
+        → IsEqualLibrary (texts words.now) (S.file shelf.old) }
 
     // The bytes written are those of the outcome, of which there is one.
     ensures text { IsTrue S.tells → IsTrue K.tells → Writes result
@@ -191,7 +206,7 @@ pub fn qual<S: Shelf, K: Sink>(
         (S.faults shelf.old) (S.faults shelf.new) (K.faults out.old) (K.faults out.new)) }
 
     // Done says that each cell was found equal, and Faulty that one wasn't.
-    ensures verdict { IsTrue S.tells → JudgesExactly result (texts words.now) (S.file shelf.old) (NoCountRose
+    ensures verdict { IsTrue S.tells → IsCompare (command_of (texts words.now)) → JudgesExactly result (texts words.now) (S.file shelf.old) (NoCountRose
         (S.faults shelf.old) (S.faults shelf.new) (K.faults out.old) (K.faults out.new)) }
 
     // Two files that are accepted are compared, and the whole text is written.
@@ -200,9 +215,10 @@ pub fn qual<S: Shelf, K: Sink>(
         → (result ≡ Status.NoMemory) ⊎ IsWhole result (IsOutcome (texts words.now) (S.file shelf.old))
         (K.written out.old) (K.written out.new) }
 
-    // No device fails by itself where none is told to.
+    // No device fails by itself where none is told to. There is an outcome where each file that is started is there, so
+    // no file is started after one that is refused.
     ensures no_read_fault { IsTrue S.tells → NoneFails (S.fails shelf.old)
-        → AreThere (S.file shelf.old) (names (texts words.now)) → result ≢ Status.ReadFault }
+        → (reply : Reply) → IsOutcome (texts words.now) (S.file shelf.old) reply → result ≢ Status.ReadFault }
     ensures no_write_fault { IsTrue S.tells → IsTrue K.tells → NoneFails (K.fails out.old)
         → HasRoom (IsOutcome (texts words.now) (S.file shelf.old)) (K.room out.old)
         → result ≢ Status.WriteFault }
@@ -210,6 +226,8 @@ pub fn qual<S: Shelf, K: Sink>(
     // What is asked of the shelf, and what stays.
     ensures asked { IsTrue S.tells → AsksFor (names (texts words.now)) (S.file shelf.old)
         (S.expects shelf.old) (S.asked shelf.old) (S.asked shelf.new) }
+    ensures none_missing { IsTrue S.tells → (reply : Reply) → IsOutcome (texts words.now) (S.file shelf.old) reply
+        → (S.asked shelf.new).missing ≡ (S.asked shelf.old).missing }
     ensures files { S.file shelf.new ≡ S.file shelf.old }
 {
     match reply_to(alloc, words, shelf) {

@@ -183,5 +183,5 @@ module _ (n : Net) (ok : IsNet n) (values : List Tern) (best : List ℕ) (spread
 pub next_more : (n : Net) (values next : List Tern) (i : ℕ) (v : Tern) → i < length next → ((k : ℕ) → k < i → Becomes n values k (value_at next k)) → Becomes n values i v
     → (k : ℕ) → k < i + 1 → Becomes n values k (value_at (slice_set next i v) k)
 next_more n values next i v lt before here = below_more (λ k. Becomes n values k (value_at (slice_set next i v) k)) i
-    (λ k h. let ne : k ≢ i = omega arith in subst (Becomes n values k) (sym (get_or-set_other next i k v Zero ne)) (before k h))
-    (subst (Becomes n values i) (sym (get_or-set_same next i v Zero lt)) here)
+    (λ k h. let ne : k ≢ i = omega arith in subst (Becomes n values k) (sym (get_or-set_other next i k v Unknown ne)) (before k h))
+    (subst (Becomes n values i) (sym (get_or-set_same next i v Unknown lt)) here)

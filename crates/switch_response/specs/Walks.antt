@@ -20,7 +20,7 @@ pub record Step : Type 0 where
   pub to : ℕ
 
 abbrev pub value_at : List Tern → ℕ → Tern
-value_at values node = slice_index_or values node Zero
+value_at values node = slice_index_or values node Unknown
 
 -- An n transistor is on at gate 1, off at 0 and maybe at X. A p transistor is the reverse.
 abbrev pub is_on : Channel → Tern → Bool

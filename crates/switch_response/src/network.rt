@@ -1,6 +1,6 @@
 //! Networks, their states, and the room that a response takes.
 
-ghost use Rattle.std.specs.Prelude.{◌≡◌, ◌≤◌, ◌<◌, ◌+◌, ◌*◌, ◌^◌, ◌++◌, ℕ, List, length, slice_set, slice_get, IfOk, Some, replicate, MatchOption, Contains};
+ghost use Rattle.std.specs.Prelude.{◌≡◌, ◌≤◌, ◌<◌, ◌+◌, ◌*◌, ◌^◌, ◌++◌, ℕ, List, length, slice_set, slice_get, IfOk, IfSome, Some, replicate, MatchOption, Contains};
 ghost use Rattle.std.specs.Str.{bytes_eq};
 ghost use Rattle.switch_response.specs.Places.{Indexes};
 ghost use Rattle.tern_core.specs.declared.tern.Tern.{Tern};
@@ -80,9 +80,10 @@ impl SwitchNet {
         self.names[node].as_bytes()
     }
 
-    /// The storage node of this name.
+    /// The storage node of this name. None exactly where no storage node has the name.
     pub fn node_of(&self, name: &[u8]) -> Option<usize>
-        ensures { MatchOption result (¬ Contains self.now.names name.now) (λ node. slice_get self.now.names node ≡ Some name.now) }
+        ensures named { MatchOption result (¬ Contains self.now.names name.now) (λ node. slice_get self.now.names node ≡ Some name.now) }
+        ensures within { IfSome result (λ node. node < self.now.net.storage) }
     {
         self.index.get(name)
     }

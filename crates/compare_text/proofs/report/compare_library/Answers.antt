@@ -4,7 +4,7 @@ use Rattle.compare_text.specs.declared.report.CompareReport.{CompareReport}
 use Rattle.compare_text.specs.declared.report.Totals.{Totals}
 use Rattle.compare_text.specs.Text.{line, block, with_verdict}
 use Rattle.compare_text.proofs.Growing.{next_cell, finished, count_more}
-use Rattle.compare_text.proofs.Saying.{says_truly}
+use Rattle.compare_text.proofs.Saying.{report_truly}
 use Rattle.compare_text.proofs.report.compare_library.Goals as goal
 
 pub loop-part-preserved : goal.loop-part-preserved
@@ -26,5 +26,7 @@ returns-clause-equal c =
     let report : CompareReport = record { text = c.from_vec.result; totals = c.loop-part.totals } in
     let all : length c.args.library.now.cells ≤ c.loop-part.part-index = rw (sym c.as_slice-part-items.ensures) (grind (arith, c.loop-part-test.false)) in
     let text = c.from_vec.ensures ∙ c.in_ok-put_line.ensures ∙ ap (λ (t : List ℕ). t ++ line (codes "end")) c.in_ok-put_totals.ensures in
-    says_truly c.equal_means_equal.ensures c.args.library.now c.args.models.now report
+    λ limits library source.
+    report_truly limits c.args.models.now source (λ part k kept is. c.texts_can_be_shown.ensures limits part c.args.models.now k kept source is)
+    (λ part k is says. c.equal_means_equal.ensures part c.args.models.now k is says) c.args.library.now report library
     (finished c.args.library.now c.args.models.now c.loop-part.part-index c.loop-part.text.items report all c.loop-part.invariant.begun text)

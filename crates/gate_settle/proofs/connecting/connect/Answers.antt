@@ -30,6 +30,7 @@ invariant_of-result c =
     let is : c.from_vec-gates.result ≡ sorted = search rules in (
       subst (λ gs. is_ordered (known_at_first (length c.args.given) gs) gs ≡ true) (sym is) (ordered_whole (length c.args.given) sorted all same ordered),
       subst (λ gs. have_own_states (length c.args.state_nets) gs ≡ true) (sym is) (own_arranged (length c.args.state_nets) sorted all same c.requires.states),
+      c.requires.nets,
     )
 
 pub returns-then-len-eq0-clause-connected : goal.returns-then-len-eq0-clause-connected

@@ -1,11 +1,16 @@
 use Rattle.module_net.specs.Outside.{given_of}
-use Rattle.module_net.proofs.Built.{within_all, own_all, refused_all}
+use Rattle.module_net.proofs.Built.{within_all, places_all, own_all, refused_all}
 use Rattle.module_net.proofs.building.build.Goals as goal
 
 pub connect-requires-clause-within : goal.connect-requires-clause-within
 connect-requires-clause-within c =
     within_all c.args.«module».now c.args.primitives.now c.as_slice-elements.result.now c.in_ok-used.used c.in_ok-nets.nets c.as_slice.result.now c.in_ok-gates.gates.items c.in_ok-given.given (given_of c.args.«module».now c.args.inputs.now c.args.supplies.now)
     c.as_slice-elements.ensures c.in_ok-nets.ensures c.in_ok-gates.ensures c.as_slice.ensures c.in_ok-given.ensures
+
+pub connect-requires-clause-nets : goal.connect-requires-clause-nets
+connect-requires-clause-nets c =
+    places_all c.args.«module».now c.args.primitives.now c.as_slice-elements.result.now c.in_ok-nets.nets c.as_slice.result.now c.in_ok-given.given (given_of c.args.«module».now c.args.inputs.now c.args.supplies.now) c.in_ok-state_nets.state_nets
+    c.as_slice-elements.ensures c.in_ok-nets.ensures c.as_slice.ensures c.in_ok-given.ensures c.in_ok-state_nets.ensures
 
 pub connect-requires-clause-states : goal.connect-requires-clause-states
 connect-requires-clause-states c =

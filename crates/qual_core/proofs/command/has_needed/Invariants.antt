@@ -4,6 +4,7 @@ use Rattle.qual_core.specs.Names.{is_among}
 use Rattle.qual_core.specs.Command.{texts, options, option_word, has_needed}
 use Rattle.qual_core.proofs.command.has_needed.Given as goal
 
-abbrev pub invariant-loop-file : goal.invariant-loop-file
-invariant-loop-file l =
-    has_needed l.fn.name (texts l.pairs) ≡ list_all (λ file. is_among (options (texts l.pairs)) (option_word file)) (drop l.file-index l.file-items)
+abbrev pub invariant-loop-option : goal.invariant-loop-option
+invariant-loop-option l =
+    has_needed l.fn.name (texts l.pairs)
+    ≡ list_all (λ option. is_among (options (texts l.pairs)) (option_word option)) (drop l.option-index l.option-items)

@@ -2,14 +2,17 @@ use Rattle.std.proofs.Common.{refl, inr, rules}
 use Rattle.qual_core.specs.Command.{texts, command_of}
 use Rattle.qual_core.specs.Outcome.{IsOutcome}
 use Rattle.qual_core.proofs.Ends.{reply_answers, no_read_fault, no_write_fault, kept_blames, usage_exactly, usage_text, writes_whole, writes_truly, answers_exactly}
-use Rattle.qual_core.proofs.Judging.{judges_exactly}
+use Rattle.qual_core.proofs.Judging.{judges_exactly, done_is_equal}
 use Rattle.qual_core.proofs.top.qual.Goals as goal
 
 pub returns-in-Ok-put-clause-equal : goal.returns-in-Ok-put-clause-equal
 returns-in-Ok-put-clause-equal g c told sink =
-    writes_truly c.in-Ok.reply.status (texts c.args.words.now) (g.S.Shelf.file c.args.shelf.now) (g.K.Sink.written c.args.out.now) _ c.in-Ok.reply
-    (reply_answers (command_of (texts c.args.words.now)) c.in-Ok.reply c.in-Ok.ensures.status) (c.in-Ok.ensures.reply told) refl
+    writes_truly (texts c.args.words.now) (g.S.Shelf.file c.args.shelf.now) (g.K.Sink.written c.args.out.now) _ c.in-Ok.reply (c.in-Ok.ensures.reply told)
     (rw (← c.as_bytes.ensures) (c.in-Ok-put.ensures.ok sink))
+
+pub returns-in-Ok-put-clause-done_is_equal : goal.returns-in-Ok-put-clause-done_is_equal
+returns-in-Ok-put-clause-done_is_equal g c told compares done =
+    done_is_equal (texts c.args.words.now) (g.S.Shelf.file c.args.shelf.now) c.in-Ok.reply (c.in-Ok.ensures.reply told).outcome.is done
 
 pub returns-in-Ok-put-clause-text : goal.returns-in-Ok-put-clause-text
 returns-in-Ok-put-clause-text g c told sink =
@@ -42,7 +45,7 @@ returns-in-Ok-put-clause-answer g c told =
     (reply_answers (command_of (texts c.args.words.now)) c.in-Ok.reply c.in-Ok.ensures.status) (c.in-Ok.ensures.reply told)
 
 pub returns-in-Ok-put-clause-verdict : goal.returns-in-Ok-put-clause-verdict
-returns-in-Ok-put-clause-verdict g c told =
+returns-in-Ok-put-clause-verdict g c told compares =
     judges_exactly (texts c.args.words.now) (g.S.Shelf.file c.args.shelf.now) c.in-Ok.reply _ (c.in-Ok.ensures.reply told).outcome.is
 
 pub returns-in-Ok-put-clause-complete : goal.returns-in-Ok-put-clause-complete
@@ -51,7 +54,7 @@ returns-in-Ok-put-clause-complete g c told sink a nf =
     inr (answer.accepted a, (c.in-Ok.reply, answer.outcome, refl, rw (← c.as_bytes.ensures) (c.in-Ok-put.ensures.ok sink)))
 
 pub returns-in-Ok-put-clause-no_read_fault : goal.returns-in-Ok-put-clause-no_read_fault
-returns-in-Ok-put-clause-no_read_fault g c told none there =
+returns-in-Ok-put-clause-no_read_fault g c told none reply outcome =
     no_read_fault c.in-Ok.reply.status (reply_answers (command_of (texts c.args.words.now)) c.in-Ok.reply c.in-Ok.ensures.status)
 
 pub returns-in-Ok-put-clause-no_write_fault : goal.returns-in-Ok-put-clause-no_write_fault

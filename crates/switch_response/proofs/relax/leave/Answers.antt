@@ -1,4 +1,6 @@
 use Rattle.std.proofs.Common.{◌≡◌, ◌<◌, ◌+◌, ℕ, true, false, IsTrue, List, length, slice_index, slice_index_or, sym, ◌∙◌, ap, subst, refl, arith}
+use Rattle.std.proofs.lemmas.List.{get_or_default}
+use Rattle.tern_core.specs.declared.tern.Tern.TheVariants.{Zero, Unknown}
 use Rattle.switch_response.specs.declared.transistor.Channel.TheVariants.{N}
 use Rattle.switch_response.specs.declared.wiring.Arc.{Arc}
 use Rattle.switch_response.specs.Walks.{value_at}
@@ -27,9 +29,11 @@ loop-arc-preserved c =
     let inside : i < length arcs = c.loop-arc-test.true in
     let arc : IsArcAt c.args.wiring.now.transistors c.args.wiring.now.storage c.args.node x = c.arcs_at-arc-items.ensures.arcs.each i d0 inside in
     let strength : ℕ = slice_index c.args.best.now c.args.node in
+    let gate : x.gate < length c.args.values.now = omega (arith, (c.arcs_at-arc-items.ensures.within i d0 inside).0, (c.arcs_at-arc-items.ensures.within i d0 inside).1, c.requires.values) in
+    let read : slice_index_or c.args.values.now x.gate Zero ≡ value_at c.args.values.now x.gate = get_or_default c.args.values.now x.gate Zero Unknown gate in
     elim c.if-passes.branch [
       | then-passes w ↦
-          let opened : IsTrue (opens c.args.definite x.channel (value_at c.args.values.now x.gate)) = sym c.passes.ensures ∙ w.if-passes.true in
+          let opened : IsTrue (opens c.args.definite x.channel (value_at c.args.values.now x.gate)) = sym (ap (opens c.args.definite x.channel) read) ∙ sym c.passes.ensures ∙ w.if-passes.true in
           let r = grown_carry g c.args.best.now c.args.waiting.now.items c.args.node strength c.loop-arc.best w.carry.new.best c.loop-arc.waiting.items w.carry.new.waiting.items x arc opened
           (omega (arith, (c.arcs_at-arc-items.ensures.within i d0 inside).1, c.requires.best)) (c.requires.bounded c.args.node 0 (omega (arith, c.requires.node, c.requires.best))) c.loop-arc.invariant.own c.loop-arc.invariant.grown w.carry.ensures.carried in
           record {
@@ -40,7 +44,7 @@ loop-arc-preserved c =
             capacity = ap (λ s. s.capacity) w.waiting-is ∙ w.carry.ensures.capacity ∙ c.loop-arc.invariant.capacity;
           }
       | else-passes w ↦
-          let closed : IsTrue (opens c.args.definite x.channel (value_at c.args.values.now x.gate)) → ⊥ = λ o. (let e : false ≡ true = sym (sym c.passes.ensures ∙ w.if-passes.false) ∙ o in cc) in
+          let closed : IsTrue (opens c.args.definite x.channel (value_at c.args.values.now x.gate)) → ⊥ = λ o. (let e : false ≡ true = sym (sym c.passes.ensures ∙ w.if-passes.false) ∙ ap (opens c.args.definite x.channel) read ∙ o in cc) in
           record {
             grown = subst (λ b. IsGrown g c.args.best.now b c.args.waiting.now.items c.if-passes.waiting.items) (sym w.best-is) (subst (λ s. IsGrown g c.args.best.now c.loop-arc.best c.args.waiting.now.items s.items) (sym w.waiting-is) c.loop-arc.invariant.grown);
             own = ap (λ b. slice_index b c.args.node) w.best-is ∙ c.loop-arc.invariant.own;
