@@ -14,8 +14,10 @@ mod names;
 mod obeying;
 mod order;
 mod ordering;
+mod region;
 mod signs;
 mod skim;
+mod text_lines;
 mod word;
 
 pub use directives::Directives;
