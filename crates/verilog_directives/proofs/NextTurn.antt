@@ -9,7 +9,7 @@ use Rattle.verilog_directives.specs.declared.condition.Condition.{Condition}
 use Rattle.verilog_directives.specs.Words.{directive_of}
 use Rattle.verilog_directives.specs.Signs.{is_wrong, is_mark, word_after}
 use Rattle.verilog_directives.specs.Conditions.{is_read}
-use Rattle.verilog_directives.specs.Regions.{after_token}
+use Rattle.verilog_directives.specs.Regions.{after_token, after_kept}
 use Rattle.verilog_directives.specs.Left.{State, item, end_item, is_passed, is_kept, line_after, after, turn, directive_turn, left_from, is_last, followed}
 use Rattle.verilog_directives.specs.Directives.{left_by}
 use Rattle.verilog_directives.proofs.Looks.{followed-open}
@@ -45,9 +45,9 @@ module _ (text : List ℕ) (limits : Limits) (s : State) (t : Token) (ts to : Li
   passes shut right passed = taken_first shut ∙ rw (shut, right, passed) refl
 
   pub keeps : is_end t.kind ≡ false → is_wrong text t ≡ false → is_passed s.line t ≡ false → is_kept s.line t ≡ true
-      → left_from text limits s 0 to ≡ followed (item Plain t) (left_from text limits s 0 ts)
+      → left_from text limits s 0 to ≡ followed (item Plain t) (left_from text limits (record s { region = after_kept text s.region t }) 0 ts)
   unfolding turn left_by
-  keeps shut right here kept = taken_first shut ∙ rw (shut, right, here, kept) (sym (shows s shut))
+  keeps shut right here kept = taken_first shut ∙ rw (shut, right, here, kept) (sym (shows _ shut))
 
   directs : is_end t.kind ≡ false → is_wrong text t ≡ false → is_passed s.line t ≡ false → is_kept s.line t ≡ false → is_mark text t ≡ true
       → left_from text limits s 0 to ≡ left_by text limits (directive_turn text limits s t ts (directive_of (word_after text t (after 0 t ts)))) ts

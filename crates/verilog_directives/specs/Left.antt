@@ -21,7 +21,7 @@ use Rattle.verilog_directives.specs.declared.word.Directive.{Directive}
 use Rattle.verilog_directives.specs.declared.word.Directive.TheVariants as directives
 use Rattle.verilog_directives.specs.Words.{directive_of}
 use Rattle.verilog_directives.specs.Signs.{is_wrong, is_mark, is_lone, word_after, name_of}
-use Rattle.verilog_directives.specs.Regions.{after_token, line_behind}
+use Rattle.verilog_directives.specs.Regions.{after_token, after_kept, line_behind}
 use Rattle.verilog_directives.specs.Conditions.{is_read, opened, at_elsif, at_else}
 
 abbrev pub Names : Type 0
@@ -204,7 +204,7 @@ turn source limits s t ts =
     if is_end t.kind then Ends (end_item s.conditions t) else
     if is_wrong source t then Shows (item Plain t) 0 s else
     if is_passed s.line t then Goes 0 (record s { line = line_after source s.line t (after 0 t ts) }) else
-    if is_kept s.line t then Shows (item Plain t) 0 s else
+    if is_kept s.line t then Shows (item Plain t) 0 (record s { region = after_kept source s.region t }) else
     if is_mark source t then directive_turn source limits s t ts (directive_of (word_after source t (after 0 t ts))) else
     where_read s (read_turn source s t)
 

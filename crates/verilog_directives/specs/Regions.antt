@@ -1,5 +1,5 @@
 -- Where a text stands: outside modules and primitives, within one, or in a specify block.
-use Rattle.std.specs.Prelude.{ℕ, Bool, ◌||◌, if◌then◌else◌, List, codes}
+use Rattle.std.specs.Prelude.{ℕ, Bool, ◌&&◌, ◌||◌, if◌then◌else◌, List, codes}
 use Rattle.std.specs.Str.{bytes_eq}
 use Rattle.text_scan.specs.declared.token.Token.{Token}
 use Rattle.verilog_directives.specs.declared.line.Line.{Line}
@@ -34,6 +34,10 @@ after_word Specify w = if ends_part w then Outside else (if ends_block w then Pa
 -- after a token that is read
 unfoldable pub after_token : List ℕ → Region → Token → Region
 after_token source region t = if is_word t.kind then after_word region (text source t) else region
+
+-- after a token on a line that stands as it is: it may end a part that is refused
+unfoldable pub after_kept : List ℕ → Region → Token → Region
+after_kept source region t = if is_word t.kind && ends_part (text source t) then Outside else region
 
 -- what becomes of a line after a directive or macro that isn't obeyed: within a part it is read on
 abbrev pub line_behind : Region → ℕ → Line

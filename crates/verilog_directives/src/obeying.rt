@@ -164,6 +164,7 @@ impl<'s> Directives<'s> {
             return Ok(None);
         }
         if self.line.keeps(token) {
+            self.region = self.region.after_kept(self.tokens.source, token);
             return Ok(Some(plain(token)));
         }
         if is_mark(self.tokens.source, token) {

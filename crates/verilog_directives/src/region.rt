@@ -79,6 +79,19 @@ impl Region {
         }
     }
 
+    /// Where the text stands after a token on a line that stands as it is, which may end a part that is refused.
+    #[tactic(auto, unfolding(crate::specs::Regions::after_kept))]
+    pub(crate) fn after_kept(self, source: &[u8], token: Token) -> Region
+        requires { IsSliceOf source.now token }
+        ensures { result ≡ spec.after_kept source.now self token }
+    {
+        if is_word(token.kind) && ends_part(token.text(source)) {
+            Region::Outside
+        } else {
+            self
+        }
+    }
+
     /// What becomes of this line after a directive or macro on it that isn't obeyed.
     pub(crate) fn line_behind(self, line: u32) -> Line
         ensures { result ≡ spec.line_behind self line }

@@ -219,6 +219,10 @@ fn macros_in_parts_take_themselves_alone(rt: HostRuntime) -> Result<(), Fail> {
                 b"module `define A `else \\\n`else\n`define B `else",
                 b"module !` !` $",
             ),
+            (
+                b"module specify `A endmodule\nmodule `A `ifdef A `endif",
+                b"module specify !` endmodule module !` $",
+            ),
             (b"`A module\n`B `else", b"!` module !` ` else $"),
             (b"\\module `A `else", b"\\module !` ` else $"),
         ],

@@ -45,7 +45,7 @@ unfolding left
 returns-then-keeps-clause-ok c =
     let self = c.args.self.now in
     let token = c.take-token in
-    rw c.plain-then-keeps.ensures (ap (λ z. left_from z self.limits (state self) 0 (to_come self.tokens)) (sym token.ensures.source)
+    rw (c.plain-then-keeps.ensures, c.after_kept-self.ensures) (ap (λ z. left_from z self.limits (state self) 0 (to_come self.tokens)) (sym token.ensures.source)
     ∙ keeps token.new.self.source.now self.limits (state self) token.result _ _ token.ensures.next
     (sym c.is_end.ensures ∙ c.if-is_end.false) (sym c.is_wrong.ensures ∙ c.if-is_wrong.false) (sym c.passes.ensures ∙ c.if-passes.false)
     (sym c.keeps.ensures ∙ c.if-keeps.true))
