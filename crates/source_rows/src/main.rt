@@ -1,6 +1,9 @@
-//! Reads all beginnings of each text of some files as Verilog sources, the whole text last, and prints what the reader
-//! answers: `source_rows FILE..`. Texts are parted by `%`. Beginnings with one answer, one byte longer each, are one line.
+//! Reads texts of files as Verilog sources and prints what the reader answers: `source_rows FILE.. --whole FILE..`. Texts
+//! are parted by `%`. Of a text of the first files all beginnings are read, the whole text last; beginnings with one
+//! answer, one byte longer each, are one line. Of a text of the others what is kept of it is shown.
 #![tactic(auto)]
+
+mod whole;
 
 use anyhow::Result;
 use std::alloc::{Alloc, Global};
@@ -8,6 +11,7 @@ use std::io::Print;
 use std::{env, fs};
 use text_scan::{FileRefusal, Limits};
 use verilog_reader::read_source;
+use whole::show_whole;
 
 /// A line and a column of a text.
 type Spot = (u32, u32);
@@ -87,10 +91,19 @@ fn show_text<R: Print + Alloc<A = Global>>(rt: &R, text: &[u8]) -> Result<()> {
 }
 
 fn main(rt: HostRuntime) -> Result<()> {
-    for path in env::args(&rt)?.skip(1) {
-        let texts = String::from_utf8(fs::read(&rt, path.as_str())?)?;
-        for text in texts.split('%') {
-            show_text(&rt, text.as_bytes())?;
+    let mut is_whole = false;
+    for word in env::args(&rt)?.skip(1) {
+        if word.as_str() == "--whole" {
+            is_whole = true;
+            continue;
+        }
+        let texts = fs::read(&rt, word.as_str())?;
+        for text in texts.split(|byte| *byte == b'%') {
+            if is_whole {
+                show_whole(&rt, text)?;
+            } else {
+                show_text(&rt, text)?;
+            }
         }
     }
     Ok(())

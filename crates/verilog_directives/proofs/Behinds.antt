@@ -1,5 +1,5 @@
 -- Tokens of a text that begins at a place of another, and where tokens begin.
-use Rattle.std.proofs.Common.{◌≡◌, ℕ, zero, suc, ◌+◌, ◌-◌, ◌<◌, ◌≤◌, ◌==◌, Bool, true, false, cond, eqb, min, List, [], ◌∷◌, map, length, take, drop, length-drop, refl, sym, ap, subst, ◌∙◌, arith}
+use Rattle.std.proofs.Common.{◌≡◌, ℕ, zero, suc, ◌+◌, ◌-◌, ◌≤◌, ◌==◌, Bool, true, false, cond, eqb, min, List, [], ◌∷◌, map, length, drop, length-drop, refl, sym, ap, subst, ◌∙◌, arith}
 use Rattle.std.specs.Prelude.{nat_lt}
 use Rattle.std.proofs.lemmas.List.{drop-drop}
 use Rattle.text_scan.specs.declared.token.Kind.{Kind}
@@ -11,11 +11,11 @@ use Rattle.text_scan.specs.declared.cursor.Cursor.{Cursor}
 use Rattle.text_scan.specs.Bytes.{is_space, is_letter, is_digit, begins_with, begins_with_pair, until}
 use Rattle.text_scan.specs.Pieces.{piece, verilog_piece, string, comment, line_comment, word}
 use Rattle.text_scan.specs.Tokens.{start, over, after, before, size, token, tokens, tokens_of}
-use Rattle.text_scan.specs.Left.{left, source as cursor_source, tokens_at, is_end, followed, IsSliceOf}
+use Rattle.text_scan.specs.Left.{left, tokens_at, is_end, followed, IsSliceOf}
 use Rattle.text_scan.specs.Moved.{moved, onward}
 use Rattle.text_scan.proofs.Moved.{IsPlace, start_is_place, tokens_at as moved_tokens}
 use Rattle.text_scan.proofs.Places.{after_at}
-use Rattle.verilog_directives.specs.Behind.{moved_on, place_of, IsCounted, Stands, StandIn}
+use Rattle.verilog_directives.specs.Behind.{moved_on, IsCounted, Stands, StandIn}
 use Rattle.verilog_directives.proofs.Looks.{followed-open}
 
 -- ---- where tokens begin

@@ -4,7 +4,6 @@ pub mod Reversed
 pub mod Orders
 pub mod Turns
 pub mod NextTurn
-pub mod Branches
 pub mod Plain
 pub mod Skims
 pub mod Skimmed

@@ -9,7 +9,8 @@ use Rattle.verilog_directives.specs.declared.condition.Condition.{Condition}
 use Rattle.verilog_directives.specs.Words.{directive_of}
 use Rattle.verilog_directives.specs.Signs.{is_wrong, is_mark, word_after}
 use Rattle.verilog_directives.specs.Conditions.{is_read}
-use Rattle.verilog_directives.specs.Left.{State, item, end_item, is_passed, is_kept, after, turn, directive_turn, left_from, is_last, followed}
+use Rattle.verilog_directives.specs.Regions.{after_token, after_kept}
+use Rattle.verilog_directives.specs.Left.{State, item, end_item, is_passed, is_kept, line_after, after, turn, directive_turn, left_from, is_last, followed}
 use Rattle.verilog_directives.specs.Directives.{left_by}
 use Rattle.verilog_directives.proofs.Looks.{followed-open}
 use Rattle.verilog_directives.proofs.Turns.{followed-last, followed-more}
@@ -31,21 +32,22 @@ module _ (text : List ℕ) (limits : Limits) (s : State) (t : Token) (ts to : Li
   unfolding left_from left_by
   taken_first shut = ap (left_from text limits s 0) (next ∙ followed-open t ts shut)
 
-  shows : is_end t.kind ≡ false → followed (item Plain t) (left_from text limits s 0 ts) ≡ item Plain t ∷ left_from text limits s 0 ts
-  shows shut = followed-more (item Plain t) _ shut
+  shows : (s : State) → is_end t.kind ≡ false → followed (item Plain t) (left_from text limits s 0 ts) ≡ item Plain t ∷ left_from text limits s 0 ts
+  shows s shut = followed-more (item Plain t) _ shut
 
   pub shows_wrong : is_end t.kind ≡ false → is_wrong text t ≡ true → left_from text limits s 0 to ≡ followed (item Plain t) (left_from text limits s 0 ts)
   unfolding turn left_by
-  shows_wrong shut wrong = taken_first shut ∙ rw (shut, wrong) (sym (shows shut))
+  shows_wrong shut wrong = taken_first shut ∙ rw (shut, wrong) (sym (shows s shut))
 
-  pub passes : is_end t.kind ≡ false → is_wrong text t ≡ false → is_passed s.line t ≡ true → left_from text limits s 0 to ≡ left_from text limits s 0 ts
+  pub passes : is_end t.kind ≡ false → is_wrong text t ≡ false → is_passed s.line t ≡ true
+      → left_from text limits s 0 to ≡ left_from text limits (record s { line = line_after text s.line t (after 0 t ts) }) 0 ts
   unfolding turn left_by
   passes shut right passed = taken_first shut ∙ rw (shut, right, passed) refl
 
   pub keeps : is_end t.kind ≡ false → is_wrong text t ≡ false → is_passed s.line t ≡ false → is_kept s.line t ≡ true
-      → left_from text limits s 0 to ≡ followed (item Plain t) (left_from text limits s 0 ts)
+      → left_from text limits s 0 to ≡ followed (item Plain t) (left_from text limits (record s { region = after_kept text s.region t }) 0 ts)
   unfolding turn left_by
-  keeps shut right here kept = taken_first shut ∙ rw (shut, right, here, kept) (sym (shows shut))
+  keeps shut right here kept = taken_first shut ∙ rw (shut, right, here, kept) (sym (shows _ shut))
 
   directs : is_end t.kind ≡ false → is_wrong text t ≡ false → is_passed s.line t ≡ false → is_kept s.line t ≡ false → is_mark text t ≡ true
       → left_from text limits s 0 to ≡ left_by text limits (directive_turn text limits s t ts (directive_of (word_after text t (after 0 t ts)))) ts
@@ -59,9 +61,9 @@ module _ (text : List ℕ) (limits : Limits) (s : State) (t : Token) (ts to : Li
   directs_back back same put is shut right here free mark = rw (put, is) (directs shut right here free mark)
 
   pub shows_read : is_end t.kind ≡ false → is_wrong text t ≡ false → is_passed s.line t ≡ false → is_kept s.line t ≡ false → is_mark text t ≡ false → is_read s.conditions ≡ true
-      → left_from text limits s 0 to ≡ followed (item Plain t) (left_from text limits s 0 ts)
+      → left_from text limits s 0 to ≡ followed (item Plain t) (left_from text limits (record s { region = after_token text s.region t }) 0 ts)
   unfolding turn left_by
-  shows_read shut right here free plain read = taken_first shut ∙ rw (shut, right, here, free, plain, read) (sym (shows shut))
+  shows_read shut right here free plain read = taken_first shut ∙ rw (shut, right, here, free, plain, read) (sym (shows _ shut))
 
   pub passes_unread : is_end t.kind ≡ false → is_wrong text t ≡ false → is_passed s.line t ≡ false → is_kept s.line t ≡ false → is_mark text t ≡ false → is_read s.conditions ≡ false
       → left_from text limits s 0 to ≡ left_from text limits s 0 ts

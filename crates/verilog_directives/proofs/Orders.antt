@@ -9,8 +9,8 @@ use Rattle.text_scan.specs.Left.{is_end}
 use Rattle.verilog_directives.specs.Signs.{is_word, text, name_in, name_of}
 use Rattle.verilog_directives.specs.declared.order.Order.{Order}
 use Rattle.verilog_directives.specs.declared.order.Order.TheVariants.{Pass}
-use Rattle.verilog_directives.specs.declared.word.Directive.TheVariants.{Other}
-use Rattle.verilog_directives.specs.Words.{directive_of, is_passed_over, is_fault_or_delay}
+use Rattle.verilog_directives.specs.declared.word.Directive.TheVariants.{Alone}
+use Rattle.verilog_directives.specs.Words.{directive_of}
 use Rattle.verilog_directives.specs.Signs.{word_after}
 use Rattle.verilog_directives.specs.Conditions.{is_read}
 use Rattle.verilog_directives.specs.Left.{after, State, Turn, Goes, where_read}
@@ -42,6 +42,10 @@ after_first (x ∷ ts) mark k t e = here ts k e where
   here (y ∷ ts) zero e = cc
   here (y ∷ ts) (suc k) e = here ts k e
 
+pub first_after : (ts : List Token) (t next : Token) → slice_get ts 0 ≡ Some next → after 0 t ts ≡ next
+first_after [] t next e = cc
+first_after (x ∷ xs) t next e = cc
+
 -- in a text that isn't read a directive is gone over
 pub asks_where_read : (source : List ℕ) (s : State) (mark : Token) (many : ℕ) (order : Order) (asked : Turn) (b : Bool) → b ≡ is_read s.conditions → 1 ≤ many
     → Asks source s mark many order asked → Asks source s mark many (if b then order else Pass) (where_read s asked)
@@ -52,10 +56,10 @@ asks_where_read source s mark many order asked b is some asks =
     ])
 
 -- the word of a directive that is one isn't the text's end
-pub word_no_end_of : (source : List ℕ) (mark t : Token) → (directive_of (word_after source mark t) ≡ Other → ⊥) → is_end t.kind ≡ false
-unfolding word_after directive_of is_passed_over is_fault_or_delay
+pub word_no_end_of : (source : List ℕ) (mark t : Token) → (directive_of (word_after source mark t) ≡ Alone → ⊥) → is_end t.kind ≡ false
+unfolding word_after directive_of
 word_no_end_of source mark t some =
-    elim (is_word t.kind) as (λ b. is_word t.kind ≡ b → (directive_of (if b && t.span.start == mark.span.end then text source t else []) ≡ Other → ⊥) → is_end t.kind ≡ false) [
+    elim (is_word t.kind) as (λ b. is_word t.kind ≡ b → (directive_of (if b && t.span.start == mark.span.end then text source t else []) ≡ Alone → ⊥) → is_end t.kind ≡ false) [
       | true ↦ λ is some. word_no_end t.kind is
       | false ↦ λ is some. absurd (some refl)
     ] refl some

@@ -1,5 +1,5 @@
 -- Lists from their last element.
-use Rattle.std.proofs.Common.{◌≡◌, ◌-◌, ◌<◌, Bool, true, false, ◌&&◌, List, [], ◌∷◌, ◌++◌, length, drop, refl, sym, ap, ◌∙◌, arith, length-append}
+use Rattle.std.proofs.Common.{◌≡◌, ◌-◌, ◌<◌, Bool, true, false, ◌&&◌, List, [], ◌∷◌, ◌++◌, length, take, drop, refl, sym, ap, ◌∙◌, arith, length-append}
 use Rattle.std.specs.Prelude.{reverse, slice_get, Option, None, Some, option_to_list}
 use Rattle.std.specs.List.{list_all}
 use Rattle.std.proofs.lemmas.List.{reverse-append}
@@ -33,6 +33,10 @@ last_of (x ∷ xs) = ⊎_elim
     (λ some. inr (x ∷ some.0, some.1, ap (λ z. x ∷ z) some.2))
     (last_of xs)
 
+take-front : {A : Type 0} (xs ys : List A) → take (length xs) (xs ++ ys) ≡ xs
+take-front [] ys = refl
+take-front (x ∷ xs) ys = ap (λ z. x ∷ z) (take-front xs ys)
+
 get_last : {A : Type 0} (ys : List A) (x : A) → slice_get (ys ++ x ∷ []) (length ys) ≡ slice_get (x ∷ []) 0
 get_last [] x = refl
 get_last (y ∷ ys) x = get_last ys x
@@ -61,7 +65,19 @@ pub reversed_fewer : {A : Type 0} (xs ys : List A) (last : Option A) → xs ≡ 
 reversed_fewer xs ys None e none = let empty = none refl in ap (λ z. reverse z) empty ∙ ap (λ z. drop 1 (reverse z)) (sym (e ∙ ap (λ z. z ++ []) empty))
 reversed_fewer xs ys (Some x) e none = sym (ap (λ z. drop 1 (reverse z)) e ∙ ap (drop 1) (reversed_more ys x))
 
+fewer_reversed : {A : Type 0} (xs : List A) → reverse (take (length xs - 1) xs) ≡ drop 1 (reverse xs)
+fewer_reversed xs = ⊎_elim
+    (λ none. rw none refl)
+    (λ last.
+    let count : length (last.0 ++ last.1 ∷ []) - 1 ≡ length last.0 = omega (arith, length-append last.0 (last.1 ∷ [])) in
+    rw last.2 (ap (λ z. reverse (take z (last.0 ++ last.1 ∷ []))) count ∙ ap reverse (take-front last.0 (last.1 ∷ [])) ∙ sym (ap (drop 1) (reversed_more last.0 last.1))))
+    (last_of xs)
+
 -- the order of the open conditions doesn't matter for what is read
 pub read_reversed : (conditions : List Condition) → is_read (reverse conditions) ≡ is_read conditions
 unfolding is_read
 read_reversed conditions = all_reversed (λ c. is_taken c.branch) conditions
+
+-- the conditions around the innermost
+pub read_outside : (conditions : List Condition) → is_read (take (length conditions - 1) conditions) ≡ is_read (drop 1 (reverse conditions))
+read_outside conditions = sym (read_reversed (take (length conditions - 1) conditions)) ∙ ap is_read (fewer_reversed conditions)

@@ -1,8 +1,6 @@
 -- What begins a text that is skimmed.
-use Rattle.std.proofs.Common.{◌≡◌, ℕ, zero, suc, ◌+◌, ◌-◌, ◌<◌, ◌≤◌, ◌==◌, Bool, true, false, not, ◌||◌, ◌&&◌, nat_le, cond, List, [], ◌∷◌, ◌++◌, length, take, drop, refl, sym, ap, subst, ◌∙◌, arith}
+use Rattle.std.proofs.Common.{◌≡◌, ℕ, zero, suc, ◌+◌, ◌-◌, ◌<◌, ◌==◌, Bool, true, false, not, ◌||◌, ◌&&◌, nat_le, List, [], ◌∷◌, take, drop, refl, sym, ap, subst, ◌∙◌, arith}
 use Rattle.std.proofs.lemmas.Bool.{eqb-true}
-use Rattle.std.specs.Prelude.{codes}
-use Rattle.std.specs.Str.{bytes_eq}
 use Rattle.text_scan.specs.declared.token.Kind.TheVariants.{Word, Sign}
 use Rattle.text_scan.specs.declared.token.Style.TheVariants.{Verilog}
 use Rattle.text_scan.specs.declared.token.Place.{Place}
@@ -13,6 +11,7 @@ use Rattle.text_scan.specs.Jumps.{forward, line_after}
 use Rattle.text_scan.proofs.Until.{until-le}
 use Rattle.text_scan.proofs.Flat.{flat-run, after_word}
 use Rattle.text_scan.proofs.Scan.{inside}
+use Rattle.verilog_directives.specs.Regions.{begins_part, begins_block, begins_region}
 use Rattle.verilog_directives.specs.Skims.{begins_end, is_filler_text, is_plain_sign, IsBlank, IsLineEnd, IsToken}
 
 -- a byte that passes a test isn't one that doesn't
@@ -50,11 +49,11 @@ word_goes b bs test is p =
     ap (λ z. token Word p (p.at + (u + 1)) ∷ z) (ap (λ z. tokens Verilog (over b p) z bs) less ∙ inside Verilog (over b p) u bs
     ∙ ap (λ z. tokens Verilog z 0 (drop u bs)) place ∙ ap (λ z. tokens Verilog (forward (u + 1) p) 0 (drop z (b ∷ bs))) more))
 
-pub identifier : (b : ℕ) (bs text : List ℕ) (n : ℕ) → text ≡ b ∷ bs → is_letter b ≡ true → n ≡ until (ends_run is_identifier_byte) bs + 1 → begins_end (take n text) ≡ false → IsToken text n
+pub identifier : (b : ℕ) (bs text : List ℕ) (n : ℕ) → text ≡ b ∷ bs → is_letter b ≡ true → n ≡ until (ends_run is_identifier_byte) bs + 1 → (begins_end (take n text) || begins_region (take n text)) ≡ false → IsToken text n
 identifier b bs text n e on many open_word =
     let u : ℕ = until (ends_run is_identifier_byte) bs in
     let le = until-le (ends_run is_identifier_byte) bs in
-    let P : List ℕ → Type 0 = λ z. begins_end (take n z) ≡ false → IsToken z n in
+    let P : List ℕ → Type 0 = λ z. (begins_end (take n z) || begins_region (take n z)) ≡ false → IsToken z n in
     subst P (sym e) (λ open_word. record {
       kind = Word;
       some = omega arith;
@@ -63,10 +62,10 @@ identifier b bs text n e on many open_word =
       goes = λ p. subst (λ z. tokens Verilog p 0 (b ∷ bs) ≡ token Word p (p.at + z) ∷ tokens Verilog (forward z p) 0 (drop z (b ∷ bs))) (sym many) (word_goes b bs (ends_run is_identifier_byte) (identifier_piece b bs on) p);
     }) open_word
 
-number_text : (b : ℕ) (bs : List ℕ) (n : ℕ) → is_digit b ≡ true → 0 < n → begins_end (take n (b ∷ bs)) ≡ false
-unfolding begins_end is_digit
+number_text : (b : ℕ) (bs : List ℕ) (n : ℕ) → is_digit b ≡ true → 0 < n → (begins_end (take n (b ∷ bs)) || begins_region (take n (b ∷ bs))) ≡ false
+unfolding begins_end begins_part begins_block is_digit
 number_text b bs zero on some = absurd (omega arith)
-number_text b bs (suc n) on some = rw (apart is_digit 101 b refl on) refl
+number_text b bs (suc n) on some = rw (apart is_digit 101 b refl on, apart is_digit 109 b refl on, apart is_digit 112 b refl on, apart is_digit 115 b refl on) refl
 
 pub number : (b : ℕ) (bs text : List ℕ) (n : ℕ) → text ≡ b ∷ bs → is_letter b ≡ false → is_digit b ≡ true → n ≡ until (ends_run is_number_byte) bs + 1 → IsToken text n
 number b bs text n e off on many =

@@ -8,7 +8,7 @@ use Rattle.text_scan.specs.Left.{is_end}
 use Rattle.verilog_directives.specs.declared.left.Left.{Left}
 use Rattle.verilog_directives.specs.declared.left.Role.TheVariants.{Macro}
 use Rattle.verilog_directives.specs.declared.order.Order.{Order}
-use Rattle.verilog_directives.specs.declared.order.Order.TheVariants.{End, Pass, Show, PassLine, Define, Undefine, Open, Elsif, Else, Close}
+use Rattle.verilog_directives.specs.declared.order.Order.TheVariants.{End, Pass, Show, ShowAlone, ShowText, PassLine, Define, Undefine, Open, OpenUnread, Elsif, Else, Close}
 use Rattle.verilog_directives.specs.Left.{State, Goes, item, left_from, is_last, followed}
 use Rattle.verilog_directives.specs.Orders.{size, shown, state_after, turn_by, IsLawful}
 use Rattle.verilog_directives.specs.Behind.{moved_on}
@@ -43,12 +43,15 @@ pub carried : (text : List ℕ) (limits : Limits) (s : State) (mark : Token) (or
     → before (shown mark order) (left_from text limits (state_after s mark order) 0 (drop (size order) ts)) ≡ left_by text limits (turn_by s mark order) (drop 1 ts)
 unfolding left_by
 carried text limits s mark (End i) ts lawful open_mark = followed-last i _ lawful.0
-carried text limits s mark Show ts lawful open_mark = followed-more (item Macro mark) _ open_mark
+carried text limits s mark Show ts lawful open_mark = followed-more (item Macro mark) _ open_mark ∙ ap (λ z. item Macro mark ∷ z) (goes text limits _ 1 ts)
+carried text limits s mark ShowAlone ts lawful open_mark = followed-more (item Macro mark) _ open_mark
+carried text limits s mark ShowText ts lawful open_mark = followed-more (item Macro mark) _ open_mark
 carried text limits s mark Pass ts lawful open_mark = refl
 carried text limits s mark PassLine ts lawful open_mark = refl
 carried text limits s mark (Define name) ts lawful open_mark = goes text limits _ 2 ts
 carried text limits s mark (Undefine name) ts lawful open_mark = goes text limits _ 2 ts
 carried text limits s mark (Open c) ts lawful open_mark = goes text limits _ 2 ts
+carried text limits s mark (OpenUnread c) ts lawful open_mark = goes text limits _ 1 ts
 carried text limits s mark (Elsif c) ts lawful open_mark = goes text limits _ 2 ts
 carried text limits s mark (Else c) ts lawful open_mark = goes text limits _ 1 ts
 carried text limits s mark Close ts lawful open_mark = goes text limits _ 1 ts
@@ -57,11 +60,14 @@ carried text limits s mark Close ts lawful open_mark = goes text limits _ 1 ts
 pub fewer_left : (mark : Token) (order : Order) (ts : List Token) → 1 ≤ length ts → shown mark order ≡ None → length (drop (size order) ts) < length ts
 fewer_left mark (End i) ts some none = cc
 fewer_left mark Show ts some none = cc
+fewer_left mark ShowAlone ts some none = cc
+fewer_left mark ShowText ts some none = cc
 fewer_left mark Pass ts some none = omega (arith, length-drop 1 ts)
 fewer_left mark PassLine ts some none = omega (arith, length-drop 1 ts)
 fewer_left mark (Define name) ts some none = omega (arith, length-drop 3 ts)
 fewer_left mark (Undefine name) ts some none = omega (arith, length-drop 3 ts)
 fewer_left mark (Open c) ts some none = omega (arith, length-drop 3 ts)
+fewer_left mark (OpenUnread c) ts some none = omega (arith, length-drop 2 ts)
 fewer_left mark (Elsif c) ts some none = omega (arith, length-drop 3 ts)
 fewer_left mark (Else c) ts some none = omega (arith, length-drop 2 ts)
 fewer_left mark Close ts some none = omega (arith, length-drop 2 ts)

@@ -1,5 +1,5 @@
 -- Open conditions and their branches.
-use Rattle.std.specs.Prelude.{Bool, true, false, if◌then◌else◌, List, [], ◌∷◌}
+use Rattle.std.specs.Prelude.{Bool, true, false, if◌then◌else◌, List}
 use Rattle.std.specs.List.{list_all}
 use Rattle.verilog_directives.specs.declared.condition.Branch.{Branch}
 use Rattle.verilog_directives.specs.declared.condition.Branch.TheVariants.{Waiting, Taken, Passed}
@@ -35,8 +35,3 @@ at_elsif holds c = record { branch = next_branch holds c.branch; is_else = false
 -- a condition at its `else
 abbrev pub at_else : Condition → Condition
 at_else c = record { branch = next_branch true c.branch; is_else = true }
-
--- the branch at which a condition is after the tests of its branches, the last one first; the test of `else holds
-abbrev pub branch_of : List Bool → Branch
-branch_of [] = Waiting
-branch_of (holds ∷ earlier) = next_branch holds (branch_of earlier)

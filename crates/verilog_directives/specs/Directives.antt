@@ -16,7 +16,7 @@ unfoldable pub source : Directives → List ℕ
 source d = d.tokens.source.now
 
 abbrev pub state : Directives → State
-state d = record { names = d.names; conditions = d.conditions; line = d.line }
+state d = record { names = d.names; conditions = d.conditions; line = d.line; region = d.region }
 
 -- the items that are not yet answered
 unfoldable pub left : Directives → List Left

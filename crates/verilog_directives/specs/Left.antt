@@ -1,5 +1,5 @@
 -- What is left of a text's tokens when its directives are obeyed.
-use Rattle.std.specs.Prelude.{ℕ, zero, suc, Bool, true, false, not, ◌==◌, ◌&&◌, ◌||◌, nat_lt, nat_le, is_some, if◌then◌else◌, List, [], ◌∷◌, length, Option, None, Some, Result, Ok, Err}
+use Rattle.std.specs.Prelude.{ℕ, zero, suc, Bool, true, false, not, ◌+◌, ◌==◌, ◌&&◌, ◌||◌, nat_lt, nat_le, is_some, if◌then◌else◌, List, [], ◌∷◌, length, Option, None, Some, Result, Ok, Err}
 use Rattle.std.specs.List.{slice_index_or}
 use Rattle.std.specs.Ordering.{nat_cmp}
 use Rattle.std.specs.Cmp.Lexicographic.{slice_cmp}
@@ -13,33 +13,37 @@ use Rattle.verilog_directives.specs.declared.left.Left.{Left}
 use Rattle.verilog_directives.specs.declared.left.Role.{Role}
 use Rattle.verilog_directives.specs.declared.left.Role.TheVariants.{Plain, Macro, Misplaced, TooDeep, LongName}
 use Rattle.verilog_directives.specs.declared.line.Line.{Line}
-use Rattle.verilog_directives.specs.declared.line.Line.TheVariants.{Free, Passed, Kept}
+use Rattle.verilog_directives.specs.declared.line.Line.TheVariants.{Free, Passed, Kept, Text}
+use Rattle.verilog_directives.specs.declared.region.Region.{Region}
+use Rattle.verilog_directives.specs.declared.region.Region.TheVariants.{Outside}
 use Rattle.verilog_directives.specs.declared.condition.Condition.{Condition}
 use Rattle.verilog_directives.specs.declared.word.Directive.{Directive}
 use Rattle.verilog_directives.specs.declared.word.Directive.TheVariants as directives
 use Rattle.verilog_directives.specs.Words.{directive_of}
-use Rattle.verilog_directives.specs.Signs.{is_wrong, is_mark, word_after, name_of}
+use Rattle.verilog_directives.specs.Signs.{is_wrong, is_mark, is_lone, word_after, name_of}
+use Rattle.verilog_directives.specs.Regions.{after_token, after_kept, line_behind}
 use Rattle.verilog_directives.specs.Conditions.{is_read, opened, at_elsif, at_else}
 
 abbrev pub Names : Type 0
 Names = set.FinSet (slice_cmp nat_cmp)
 
--- what holds between two tokens: the names that are defined, the open conditions, the innermost first, and what
--- becomes of the rest of a line
+-- what holds between two tokens: the names that are defined, the open conditions, the innermost first, what becomes of
+-- the rest of a line, and where the text stands
 pub record State : Type 0 where
   pub names : Names
   pub conditions : List Condition
   pub line : Line
+  pub region : Region
 
 abbrev pub start : State
-start = record { names = set.empty; conditions = []; line = Free }
+start = record { names = set.empty; conditions = []; line = Free; region = Outside }
 
 -- what comes of a token
 pub data Turn : Type 0 where
   -- the last item
   Ends : Left → Turn
-  -- an item
-  Shows : Left → State → Turn
+  -- an item; so many tokens after this one belong to it
+  Shows : Left → ℕ → State → Turn
   -- no item; so many tokens after this one belong to it
   Goes : ℕ → State → Turn
 
@@ -80,19 +84,23 @@ abbrev pub holds : Bool → Bool → Bool
 holds true is_defined = is_defined
 holds false is_defined = not is_defined
 
--- a condition opens
+-- A condition opens. Where text isn't read its test isn't looked at, and no branch of it is read.
 unfoldable pub opening : List ℕ → Limits → State → Token → List Token → Bool → Turn
 opening source limits s mark ts wanted =
     if nat_lt (length s.conditions) limits.nesting
+    then (if is_read s.conditions
     then named source limits mark ts (λ name. Goes 2 (record s { conditions = opened (holds wanted (set.contains s.names name)) ∷ s.conditions }))
+    else Goes 1 (record s { conditions = opened false ∷ s.conditions }))
     else Ends (item TooDeep mark)
 
--- another branch of the innermost condition
+-- Another branch of the innermost condition. Where the text around that isn't read the test isn't looked at.
 unfoldable pub elsif_turn : List ℕ → Limits → State → Token → List Token → List Condition → Turn
 elsif_turn source limits s mark ts [] = Ends (item Misplaced mark)
 elsif_turn source limits s mark ts (c ∷ cs) =
     if c.is_else then Ends (item Misplaced mark)
-    else named source limits mark ts (λ name. Goes 2 (record s { conditions = at_elsif (set.contains s.names name) c ∷ cs }))
+    else (if is_read cs
+    then named source limits mark ts (λ name. Goes 2 (record s { conditions = at_elsif (set.contains s.names name) c ∷ cs }))
+    else Goes 1 (record s { conditions = at_elsif false c ∷ cs }))
 
 -- its last branch
 unfoldable pub else_turn : State → Token → List Condition → Turn
@@ -104,25 +112,35 @@ unfoldable pub endif_turn : State → Token → List Condition → Turn
 endif_turn s mark [] = Ends (item Misplaced mark)
 endif_turn s mark (c ∷ cs) = Goes 1 (record s { conditions = cs })
 
--- a directive or macro that isn't obeyed; the rest of its line stands as it is
-abbrev pub macro_turn : State → Token → Turn
-macro_turn s mark = Shows (item Macro mark) (record s { line = Kept mark.span.line })
+-- a directive or macro that isn't obeyed, with the word that touches the `, if one does; within a part the rest of its
+-- line is read, and elsewhere it stands as it is
+abbrev pub macro_turn : State → Token → ℕ → Turn
+macro_turn s mark words = Shows (item Macro mark) words (record s { line = line_behind s.region mark.span.line })
+
+-- a definition with a text, which isn't obeyed: from the ` on the line is its text
+abbrev pub text_turn : State → Token → Turn
+text_turn s mark = Shows (item Macro mark) 0 (record s { line = Text mark.span.line })
 
 -- a token that begins on the `'s line
 abbrev pub is_beside : Token → Token → Bool
 is_beside mark t = t.span.line == mark.span.line && not (is_end t.kind)
 
--- a name stands alone on the line after the word of `define
-unfoldable pub is_defined_alone : List ℕ → Token → List Token → Bool
-is_defined_alone source mark ts =
-    if is_beside mark (after 1 mark ts) && is_some (name_of source (after 1 mark ts)) then not (is_beside mark (after 2 mark ts)) else false
+-- a name stands on the line after the word of `define
+unfoldable pub is_defined : List ℕ → Token → List Token → Bool
+is_defined source mark ts = is_beside mark (after 1 mark ts) && is_some (name_of source (after 1 mark ts))
 
--- such a name is defined; a text for it isn't obeyed
+-- a text for it stands on the line
+unfoldable pub has_text : Token → List Token → Bool
+has_text mark ts = is_beside mark (after 2 mark ts)
+
+-- a name without a text is defined
 unfoldable pub define_turn : List ℕ → Limits → State → Token → List Token → Turn
 define_turn source limits s mark ts =
-    if is_defined_alone source mark ts
-    then named source limits mark ts (λ name. Goes 2 (record s { names = set.insert s.names name }))
-    else macro_turn s mark
+    if is_defined source mark ts
+    then (if has_text mark ts
+    then text_turn s mark
+    else named source limits mark ts (λ name. Goes 2 (record s { names = set.insert s.names name })))
+    else macro_turn s mark 1
 
 unfoldable pub undef_turn : List ℕ → Limits → State → Token → List Token → Turn
 undef_turn source limits s mark ts = named source limits mark ts (λ name. Goes 2 (record s { names = set.remove s.names name }))
@@ -137,40 +155,63 @@ directive_turn source limits s mark ts directives.Endif = endif_turn s mark s.co
 directive_turn source limits s mark ts directives.Define = where_read s (define_turn source limits s mark ts)
 directive_turn source limits s mark ts directives.Undef = where_read s (undef_turn source limits s mark ts)
 directive_turn source limits s mark ts directives.PassedOver = where_read s (Goes 0 (record s { line = Passed mark.span.line }))
-directive_turn source limits s mark ts directives.Other = where_read s (macro_turn s mark)
+directive_turn source limits s mark ts directives.Other = where_read s (macro_turn s mark 1)
+directive_turn source limits s mark ts directives.Alone = where_read s (macro_turn s mark 0)
 
 -- the token begins on a line that is passed over
 abbrev pub is_passed : Line → Token → Bool
 is_passed Free t = false
 is_passed (Passed line) t = t.span.line == line
 is_passed (Kept line) t = false
+is_passed (Text line) t = t.span.line == line
 
 -- the token begins on a line that stands as it is
 abbrev pub is_kept : Line → Token → Bool
 is_kept Free t = false
 is_kept (Passed line) t = false
 is_kept (Kept line) t = t.span.line == line
+is_kept (Text line) t = false
+
+-- the next token begins on the line after this one's
+abbrev pub is_next_line : Token → Token → Bool
+is_next_line t next = next.span.line == t.span.line + 1
+
+-- A definition's text goes on with the next line where the last token of its line is a lone \. (IEEE 1364-2005, 19.3.1)
+unfoldable pub text_line : List ℕ → ℕ → Token → Token → Line
+text_line source line t next = if is_lone source t && is_next_line t next then Text next.span.line else Text line
+
+-- the line after a token that was passed over, where this one is next
+abbrev pub line_after : List ℕ → Line → Token → Token → Line
+line_after source (Text line) t next = text_line source line t next
+line_after source Free t next = Free
+line_after source (Passed line) t next = Passed line
+line_after source (Kept line) t next = Kept line
 
 -- the line of which the rest is passed over or stands as it is, if there is one
 abbrev pub line_of : Line → ℕ
 line_of Free = 0
 line_of (Passed line) = line
 line_of (Kept line) = line
+line_of (Text line) = line
+
+-- a token that is read
+abbrev pub read_turn : List ℕ → State → Token → Turn
+read_turn source s t = Shows (item Plain t) 0 (record s { region = after_token source s.region t })
 
 -- the turn of a token before others
 unfoldable pub turn : List ℕ → Limits → State → Token → List Token → Turn
 turn source limits s t ts =
     if is_end t.kind then Ends (end_item s.conditions t) else
-    if is_wrong source t then Shows (item Plain t) s else
-    if is_passed s.line t then Goes 0 s else
-    if is_kept s.line t then Shows (item Plain t) s else
+    if is_wrong source t then Shows (item Plain t) 0 s else
+    if is_passed s.line t then Goes 0 (record s { line = line_after source s.line t (after 0 t ts) }) else
+    if is_kept s.line t then Shows (item Plain t) 0 (record s { region = after_kept source s.region t }) else
     if is_mark source t then directive_turn source limits s t ts (directive_of (word_after source t (after 0 t ts))) else
-    where_read s (Shows (item Plain t) s)
+    where_read s (read_turn source s t)
 
 -- the items of a turn, and then those of the rest
 abbrev pub taken : Turn → (State → ℕ → List Left) → List Left
 taken (Ends last) rest = last ∷ []
-taken (Shows shown s) rest = shown ∷ rest s 0
+taken (Shows shown inside s) rest = shown ∷ rest s inside
 taken (Goes inside s) rest = rest s inside
 
 -- What is left of these tokens, of which the first, so many as inside says, belong to a directive.

@@ -1,6 +1,7 @@
 pub mod Words
 pub mod Signs
 pub mod Conditions
+pub mod Regions
 pub mod Left
 pub mod NameSet
 pub mod Held

@@ -48,6 +48,10 @@ is_word Unfinished = false
 is_word LineEnd = false
 is_word End = false
 
+-- a \ alone
+unfoldable pub is_lone : List ℕ → Token → Bool
+is_lone source t = is_word t.kind && bytes_eq (text source t) (92 ∷ [])
+
 -- the bytes of a word that touches the `, and else no bytes
 unfoldable pub word_after : List ℕ → Token → Token → List ℕ
 word_after source mark t = if is_word t.kind && t.span.start == mark.span.end then text source t else []

@@ -1,5 +1,6 @@
--- Tokens that are skimmed: to a reader that waits for a word that begins with `end` they say nothing.
-use Rattle.std.specs.Prelude.{◌≡◌, ℕ, ◌+◌, ◌<◌, ◌≤◌, Bool, true, false, not, ◌==◌, ◌&&◌, nat_le, List, [], ◌∷◌, ◌++◌, length, take, drop, codes}
+-- Tokens that are skimmed: to a reader that waits for a word that begins with `end` they say nothing, and where the text
+-- stands stays as it is.
+use Rattle.std.specs.Prelude.{◌≡◌, ℕ, ◌+◌, ◌<◌, ◌≤◌, Bool, true, false, not, ◌==◌, ◌&&◌, ◌||◌, nat_le, List, [], ◌∷◌, ◌++◌, length, take, drop, codes}
 use Rattle.std.specs.List.{list_all}
 use Rattle.std.specs.Str.{bytes_eq}
 use Rattle.text_scan.specs.declared.token.Kind.{Kind}
@@ -13,6 +14,7 @@ use Rattle.text_scan.specs.Jumps.{forward, line_after}
 use Rattle.verilog_directives.specs.declared.skim.Skim.{Skim}
 use Rattle.verilog_directives.specs.declared.skim.Skim.TheVariants as skims
 use Rattle.verilog_directives.specs.Signs.{text, is_sign}
+use Rattle.verilog_directives.specs.Regions.{begins_region}
 
 -- the word begins with `end`
 unfoldable pub begins_end : List ℕ → Bool
@@ -20,14 +22,14 @@ begins_end [] = false
 begins_end (b ∷ bs) = b == 101 && begins_with_pair 110 100 bs
 
 abbrev pub is_filler_text : Kind → List ℕ → Bool
-is_filler_text Word w = not (begins_end w)
+is_filler_text Word w = not (begins_end w || begins_region w)
 is_filler_text Sign w = is_sign w && not (bytes_eq w (codes "`"))
 is_filler_text Str w = false
 is_filler_text Unfinished w = false
 is_filler_text LineEnd w = false
 is_filler_text End w = false
 
--- a filler: a word that doesn't begin with `end`, or a sign but `
+-- a filler: a word that doesn't begin with `end`, nor a module, a primitive or a specify block, or a sign but `
 unfoldable pub is_filler : List ℕ → Token → Bool
 is_filler source t = is_filler_text t.kind (text source t)
 

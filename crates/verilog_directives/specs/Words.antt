@@ -1,8 +1,8 @@
 -- The words of directives, and the grammar's own words.
-use Rattle.std.specs.Prelude.{ℕ, Bool, ◌||◌, if◌then◌else◌, List, codes}
+use Rattle.std.specs.Prelude.{ℕ, Bool, ◌||◌, if◌then◌else◌, List, [], ◌∷◌, codes}
 use Rattle.std.specs.Str.{bytes_eq}
 use Rattle.verilog_directives.specs.declared.word.Directive.{Directive}
-use Rattle.verilog_directives.specs.declared.word.Directive.TheVariants.{Define, Undef, Ifdef, Ifndef, Elsif, Else, Endif, PassedOver, Other}
+use Rattle.verilog_directives.specs.declared.word.Directive.TheVariants.{Define, Undef, Ifdef, Ifndef, Elsif, Else, Endif, PassedOver, Other, Alone}
 
 unfoldable pub is_fault_or_delay : List ℕ → Bool
 is_fault_or_delay w =
@@ -17,8 +17,8 @@ is_passed_over w =
     bytes_eq w (codes "timescale") || bytes_eq w (codes "celldefine") || bytes_eq w (codes "endcelldefine")
     || bytes_eq w (codes "resetall") || bytes_eq w (codes "default_nettype") || is_fault_or_delay w
 
-unfoldable pub directive_of : List ℕ → Directive
-directive_of w =
+unfoldable pub word_directive : List ℕ → Directive
+word_directive w =
     if bytes_eq w (codes "define") then Define else
     if bytes_eq w (codes "undef") then Undef else
     if bytes_eq w (codes "ifdef") then Ifdef else
@@ -28,6 +28,11 @@ directive_of w =
     if bytes_eq w (codes "endif") then Endif else
     if is_passed_over w then PassedOver else
     Other
+
+-- a ` that no word touches is alone
+unfoldable pub directive_of : List ℕ → Directive
+directive_of [] = Alone
+directive_of (b ∷ bs) = word_directive (b ∷ bs)
 
 unfoldable pub is_gate_word : List ℕ → Bool
 is_gate_word w =

@@ -48,6 +48,15 @@ impl Conditions {
         are_taken(&self.open)
     }
 
+    /// Whether the text around the innermost condition is read.
+    #[tactic(auto, using(crate::proofs::Reversed::read_outside))]
+    pub(crate) fn is_read_outside(&self) -> bool
+        ensures { result ≡ spec.is_read (drop 1 self.now) }
+    {
+        let outer = self.open.len().saturating_sub(1);
+        are_taken(&self.open[..outer])
+    }
+
     #[tactic(auto, using(crate::proofs::Reversed::first_reversed))]
     pub(crate) fn innermost(&self) -> Option<Condition>
         ensures { result ≡ slice_get self.now 0 }

@@ -1,20 +1,12 @@
 //! Laws of what directives leave.
-ghost use Rattle.std.specs.Prelude.{◌≡◌, [], ◌∷◌, ◌++◌, ◌&&◌, not, true, false, map};
+ghost use Rattle.std.specs.Prelude.{◌≡◌, [], ◌∷◌, ◌++◌, true, false, map};
 ghost use Rattle.std.specs.List.{list_any};
 ghost use Rattle.text_scan.specs.Left.{is_end};
-ghost use Rattle.verilog_directives.specs.Conditions.{is_taken, branch_of};
 ghost use Rattle.verilog_directives.specs.Left.{item, left_from, start};
 ghost use Rattle.verilog_directives.specs.Signs.{is_mark};
 
 use crate::left::Role;
 use text_scan::{Limits, Token};
-
-/// A branch of a condition is taken exactly where its test holds and the test of no branch before it does. The last
-/// test stands first; the test of an `else` holds.
-#[tactic(auto, using(crate::proofs::Branches::taken_once))]
-pub fn one_branch_is_taken(holds: bool, earlier: &[bool])
-    ensures { is_taken (branch_of (holds ∷ earlier.now)) ≡ (holds && not (list_any (λ test. test) earlier.now)) }
-{}
 
 /// Tokens without a `` ` `` stay as they are.
 #[tactic(auto, using(crate::proofs::Plain::tokens_stay))]

@@ -5,8 +5,9 @@ use text_scan::Token;
 pub enum Role {
     /// A token that is read. The text's end is the last of them.
     Plain,
-    /// The `` ` `` of a directive or macro that isn't obeyed. The other tokens of its line are plain: directives among
-    /// them aren't obeyed either.
+    /// The `` ` `` of a directive or macro that isn't obeyed; the word that touches it isn't left, nor is the text of a
+    /// definition. Outside modules and primitives, and in specify blocks, the other tokens of its line are plain:
+    /// directives among them aren't obeyed either.
     Macro,
     /// What may not stand here: a directive outside its condition, another token in the place of a directive's name,
     /// or the text's end in an open condition.

@@ -14,12 +14,14 @@ mod names;
 mod obeying;
 mod order;
 mod ordering;
+mod region;
 mod signs;
 mod skim;
+mod text_lines;
 mod word;
 
 pub use directives::Directives;
-pub use laws::{one_branch_is_taken, tokens_without_directives_stay};
+pub use laws::tokens_without_directives_stay;
 pub use left::{Left, Role};
 pub use signs::name_in;
 pub use word::is_reserved;

@@ -12,6 +12,9 @@ pub(crate) enum Line {
     Passed(u32),
     /// The tokens that begin on this line stand as they are.
     Kept(u32),
+    /// The tokens that begin on this line are a text of a definition, which goes on with the next line where the last
+    /// of them is a lone `\`.
+    Text(u32),
 }
 
 impl Line {
@@ -19,7 +22,7 @@ impl Line {
         ensures { result ≡ spec.is_passed self token }
     {
         match self {
-            Line::Passed(line) => token.span.line == line,
+            Line::Passed(line) | Line::Text(line) => token.span.line == line,
             Line::Free | Line::Kept(_) => false,
         }
     }
@@ -29,7 +32,7 @@ impl Line {
     {
         match self {
             Line::Kept(line) => token.span.line == line,
-            Line::Free | Line::Passed(_) => false,
+            Line::Free | Line::Passed(_) | Line::Text(_) => false,
         }
     }
 
@@ -39,7 +42,7 @@ impl Line {
     {
         match self {
             Line::Free => 0,
-            Line::Passed(line) | Line::Kept(line) => line,
+            Line::Passed(line) | Line::Kept(line) | Line::Text(line) => line,
         }
     }
 }

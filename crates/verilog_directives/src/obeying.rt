@@ -15,6 +15,7 @@ use crate::line::Line;
 use crate::lookahead::Lookahead;
 use crate::names::DefinedNames;
 use crate::order::Order;
+use crate::region::Region;
 use crate::signs::{is_end, is_mark, is_wrong};
 use std::alloc::Global;
 use text_scan::{Limits, NoMemory, Token};
@@ -52,6 +53,7 @@ impl<'s> Directives<'s> {
             names: DefinedNames::new(alloc),
             conditions: Conditions::new(alloc),
             line: Line::Free,
+            region: Region::Outside,
         }
     }
 
@@ -65,8 +67,12 @@ impl<'s> Directives<'s> {
     {
         match order {
             Order::End(_) | Order::Pass => Ok(()),
-            Order::Show => {
-                self.line = Line::Kept(mark.span.line);
+            Order::Show | Order::ShowAlone => {
+                self.line = self.region.line_behind(mark.span.line);
+                Ok(())
+            }
+            Order::ShowText => {
+                self.line = Line::Text(mark.span.line);
                 Ok(())
             }
             Order::PassLine => {
@@ -78,7 +84,9 @@ impl<'s> Directives<'s> {
                 self.names.remove(name);
                 Ok(())
             }
-            Order::Open(condition) => self.conditions.open(condition),
+            Order::Open(condition) | Order::OpenUnread(condition) => {
+                self.conditions.open(condition)
+            }
             Order::Elsif(condition) | Order::Else(condition) => {
                 self.conditions.change(condition);
                 Ok(())
@@ -152,9 +160,11 @@ impl<'s> Directives<'s> {
             return Ok(Some(plain(token)));
         }
         if self.line.passes(token) {
+            self.line = self.tokens.line_after(self.line, token);
             return Ok(None);
         }
         if self.line.keeps(token) {
+            self.region = self.region.after_kept(self.tokens.source, token);
             return Ok(Some(plain(token)));
         }
         if is_mark(self.tokens.source, token) {
@@ -162,6 +172,7 @@ impl<'s> Directives<'s> {
             return self.obey(alloc, token);
         }
         if self.conditions.is_read() {
+            self.region = self.region.after_token(self.tokens.source, token);
             return Ok(Some(plain(token)));
         }
         Ok(None)

@@ -12,17 +12,23 @@ pub(crate) enum Order<'s> {
     End(Left),
     /// Nothing, where text isn't read.
     Pass,
-    /// Something that isn't obeyed.
+    /// Something that isn't obeyed, with the word that touches the `` ` ``.
     Show,
+    /// A `` ` `` that no word touches.
+    ShowAlone,
+    /// A definition with a text.
+    ShowText,
     /// That its line is passed over.
     PassLine,
     Define(&'s [u8]),
     Undefine(&'s [u8]),
     /// That this condition is opened.
     Open(Condition),
+    /// That this condition is opened, whose test isn't looked at.
+    OpenUnread(Condition),
     /// That the innermost condition is at its next branch.
     Elsif(Condition),
-    /// That the innermost condition is at its last branch.
+    /// That the innermost condition is at its last branch, or at one whose test isn't looked at.
     Else(Condition),
     Close,
 }
@@ -34,8 +40,8 @@ impl<'s> Order<'s> {
     {
         match self {
             Order::End(_) => 0,
-            Order::Pass | Order::Show | Order::PassLine => 1,
-            Order::Else(_) | Order::Close => 2,
+            Order::Pass | Order::ShowAlone | Order::ShowText | Order::PassLine => 1,
+            Order::Show | Order::OpenUnread(_) | Order::Else(_) | Order::Close => 2,
             Order::Define(_) | Order::Undefine(_) | Order::Open(_) | Order::Elsif(_) => 3,
         }
     }
@@ -46,7 +52,7 @@ impl<'s> Order<'s> {
     {
         match self {
             Order::End(item) => Some(item),
-            Order::Show => Some(Left {
+            Order::Show | Order::ShowAlone | Order::ShowText => Some(Left {
                 token: mark,
                 role: Role::Macro,
             }),
@@ -55,6 +61,7 @@ impl<'s> Order<'s> {
             | Order::Define(_)
             | Order::Undefine(_)
             | Order::Open(_)
+            | Order::OpenUnread(_)
             | Order::Elsif(_)
             | Order::Else(_)
             | Order::Close => None,

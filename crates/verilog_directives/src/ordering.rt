@@ -87,6 +87,9 @@ impl<'s> Directives<'s> {
         if self.conditions.len() >= self.limits.nesting as usize {
             return last(mark, Role::TooDeep);
         }
+        if !self.conditions.is_read() {
+            return Order::OpenUnread(Condition::opened(false));
+        }
         match self.named(mark) {
             Err(item) => Order::End(item),
             Ok(name) => {
@@ -109,6 +112,9 @@ impl<'s> Directives<'s> {
         };
         if condition.is_else {
             return last(mark, Role::Misplaced);
+        }
+        if !self.conditions.is_read_outside() {
+            return Order::Else(condition.at_elsif(false));
         }
         match self.named(mark) {
             Err(item) => Order::End(item),
@@ -144,18 +150,27 @@ impl<'s> Directives<'s> {
         }
     }
 
-    // Whether a name stands alone on the line after the word of `define`.
-    #[tactic(auto, unfolding(crate::specs::Left::is_defined_alone))]
-    fn is_defined_alone(&mut self, mark: Token) -> bool
+    // Whether a name stands on the line after the word of `define`.
+    #[tactic(auto, unfolding(crate::specs::Left::is_defined))]
+    fn is_defined(&mut self, mark: Token) -> bool
         requires { 2 ≤ spec.held self.old }
         ensures looks { spec.OnlyLooks self.old self.new }
-        ensures value { result ≡ left.is_defined_alone self.old.tokens.source.now mark (spec.rest self.old) }
+        ensures value { result ≡ left.is_defined self.old.tokens.source.now mark (spec.rest self.old) }
+        ensures held { result ≡ true → 3 ≤ spec.held self.new }
     {
         let name = self.tokens.at(2);
-        if !is_beside(mark, name) || name_of(self.tokens.source, name).is_none() {
-            return false;
-        }
-        !is_beside(mark, self.tokens.at(3))
+        is_beside(mark, name) && name_of(self.tokens.source, name).is_some()
+    }
+
+    // Whether a text stands on the line after the name.
+    #[tactic(auto, unfolding(crate::specs::Left::has_text))]
+    fn has_text(&mut self, mark: Token) -> bool
+        requires { 3 ≤ spec.held self.old }
+        ensures looks { spec.OnlyLooks self.old self.new }
+        ensures value { result ≡ left.has_text mark (spec.rest self.old) }
+    {
+        let token = self.tokens.at(3);
+        is_beside(mark, token)
     }
 
     #[tactic(auto, unfolding(crate::specs::Left::define_turn))]
@@ -166,8 +181,11 @@ impl<'s> Directives<'s> {
         ensures asks { Asks self.old.tokens.source.now (spec.state self.old) mark (spec.held self.new) result
             (left.define_turn self.old.tokens.source.now self.old.limits (spec.state self.old) mark (spec.rest self.old)) }
     {
-        if !self.is_defined_alone(mark) {
+        if !self.is_defined(mark) {
             return Order::Show;
+        }
+        if self.has_text(mark) {
+            return Order::ShowText;
         }
         match self.named(mark) {
             Err(item) => Order::End(item),
@@ -204,7 +222,7 @@ impl<'s> Directives<'s> {
     fn order_of(&mut self, mark: Token, directive: Directive) -> Order<'s>
         requires held { 1 ≤ spec.held self.old }
         requires slice { IsSliceOf self.old.tokens.source.now mark }
-        requires word { (directive ≡ Directive.Other → ⊥) → 2 ≤ spec.held self.old }
+        requires word { (directive ≡ Directive.Alone → ⊥) → 2 ≤ spec.held self.old }
         ensures looks { spec.OnlyLooks self.old self.new }
         ensures asks { Asks self.old.tokens.source.now (spec.state self.old) mark (spec.held self.new) result
             (left.directive_turn self.old.tokens.source.now self.old.limits (spec.state self.old) mark (spec.rest self.old) directive) }
@@ -225,6 +243,7 @@ impl<'s> Directives<'s> {
             }
             Directive::PassedOver => self.where_read(Order::PassLine),
             Directive::Other => self.where_read(Order::Show),
+            Directive::Alone => self.where_read(Order::ShowAlone),
         }
     }
 

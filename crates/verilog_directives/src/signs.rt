@@ -51,13 +51,23 @@ pub(crate) fn is_mark(source: &[u8], token: Token) -> bool
     }
 }
 
-fn is_word(kind: Kind) -> bool
+/// Whether the token is a word.
+pub(crate) fn is_word(kind: Kind) -> bool
     ensures { result ≡ spec.is_word kind }
 {
     match kind {
         Kind::Word => true,
         Kind::Str | Kind::Sign | Kind::Unfinished | Kind::LineEnd | Kind::End => false,
     }
+}
+
+/// Whether the token is a `\` alone.
+#[tactic(auto, unfolding(crate::specs::Signs::is_lone))]
+pub(crate) fn is_lone(source: &[u8], token: Token) -> bool
+    requires { IsSliceOf source.now token }
+    ensures { result ≡ spec.is_lone source.now token }
+{
+    is_word(token.kind) && token.text(source) == b"\\".as_slice()
 }
 
 /// The bytes of a word that touches the `` ` ``, and else no bytes.

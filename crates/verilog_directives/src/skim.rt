@@ -7,6 +7,7 @@ ghost use Rattle.text_scan.specs.Left.{tokens_at};
 ghost use Rattle.verilog_directives.specs.Behind.{IsCounted};
 ghost use Rattle.verilog_directives.specs.Skims as spec;
 
+use crate::region::begins_region;
 use text_scan::{
     Place, is_blank, is_digit, is_letter, until_byte, until_identifier_end, until_number_end,
 };
@@ -59,7 +60,8 @@ fn skim_identifier(byte: u8, rest: &[u8], text: &[u8]) -> Skim
     ensures { spec.Begins text.now result }
 {
     let n = until_identifier_end(rest) + 1;
-    if begins_end(&text[..n]) {
+    let word = &text[..n];
+    if begins_end(word) || begins_region(word) {
         Skim::Stop
     } else {
         Skim::Token(n)

@@ -136,7 +136,12 @@ fn directives_have_names(rt: HostRuntime) -> Result<(), Fail> {
             (b"`ifndef 1 a", b"?1"),
             (b"`ifdef", b"?$"),
             (b"`ifdef A `elsif \"B\" `endif", b"?\"B\""),
-            (b"`ifdef A `ifdef ( `endif `endif", b"?("),
+            (b"`ifdef A `ifdef ( `endif `endif", b"$"),
+            (
+                b"`ifdef A `ifndef X `elsif 1 `else `endif `elsif 1 `endif",
+                b"?1",
+            ),
+            (b"`ifndef A a `elsif 1 `endif", b"a ?1"),
             (b"`undef \\ A", b"?\\"),
             (b"`undef\nA b", b"b $"),
             (b"`ifndef \\module a `endif", b"a $"),
@@ -153,13 +158,14 @@ fn a_name_is_defined_alone_on_its_line(rt: HostRuntime) -> Result<(), Fail> {
         &[
             (b"`define A", b"$"),
             (b"`define A // 1\n`ifdef A a `endif", b"a $"),
-            (
-                b"`define A 1\n`ifdef A a `else b `endif",
-                b"!` define A 1 b $",
-            ),
-            (b"`define A `ifdef B\nb", b"!` define A ` ifdef B b $"),
-            (b"`define\nA `define", b"!` define A !` define $"),
-            (b"`define 1\n", b"!` define 1 $"),
+            (b"`define A 1\n`ifdef A a `else b `endif", b"!` b $"),
+            (b"`define A `ifdef B\nb", b"!` b $"),
+            (b"`define\nA `define", b"!` A !` $"),
+            (b"`define 1\n", b"!` 1 $"),
+            (b"`define A 1 \\\n `else \\ 2\nb", b"!` b $"),
+            (b"`define A \\\n\\\r\n2\n\\ b", b"!` \\ b $"),
+            (b"`define A \\\n\nb", b"!` b $"),
+            (b"`timescale 1 \\\nb", b"b $"),
             (b"`define A\n`undef A\n`ifdef A a `else b `endif", b"b $"),
             (b"`define A\n`define A\n`undef A `ifndef A a `endif", b"a $"),
             (
@@ -177,13 +183,48 @@ fn lines_are_passed_over_or_kept(rt: HostRuntime) -> Result<(), Fail> {
         &[
             (b"`timescale 1ns / 1ps\na", b"a $"),
             (b"`celldefine a \"b\nc\" d `else\n`endcelldefine", b"d ?`"),
-            (b"a `FOO b `else c\nd", b"a !` FOO b ` else c d $"),
-            (b"`include \"a\"\nb", b"!` include \"a\" b $"),
+            (b"a `FOO b `else c\nd", b"a !` b ` else c d $"),
+            (b"`include \"a\"\nb", b"!` \"a\" b $"),
             (b"` ifdef A\nb", b"!` ifdef A b $"),
-            (b"`\\ifdef A\nb", b"!` \\ifdef A b $"),
+            (b"`\\ifdef A\nb", b"!` A b $"),
             (b"a `", b"a !` $"),
             (b"`ifdef A `FOO `timescale `endif b", b"b $"),
             (b"a \"`else\" // `endif\n/* `elsif */ b", b"a \"`else\" b $"),
+        ],
+    )
+}
+
+#[test]
+fn macros_in_parts_take_themselves_alone(rt: HostRuntime) -> Result<(), Fail> {
+    shows(
+        &rt,
+        &[
+            (
+                b"module `A `endmodule `ifdef B b `endif\nendmodule `A `else\n",
+                b"module !` !` endmodule !` ` else $",
+            ),
+            (
+                b"primitive `A `ifdef B\n`endif endprimitive `A `ifdef",
+                b"primitive !` endprimitive !` ` ifdef $",
+            ),
+            (
+                b"module specify `A `else\nendspecify `A `ifdef A `endif",
+                b"module specify !` ` else endspecify !` $",
+            ),
+            (
+                b"module specify endmodule `A `else\nendspecify `A `else",
+                b"module specify endmodule !` ` else endspecify !` ?`",
+            ),
+            (
+                b"module `define A `else \\\n`else\n`define B `else",
+                b"module !` !` $",
+            ),
+            (
+                b"module specify `A endmodule\nmodule `A `ifdef A `endif",
+                b"module specify !` endmodule module !` $",
+            ),
+            (b"`A module\n`B `else", b"!` module !` ` else $"),
+            (b"\\module `A `else", b"\\module !` ` else $"),
         ],
     )
 }
@@ -236,11 +277,8 @@ fn conditions_and_names_have_limits(rt: HostRuntime) -> Result<(), Fail> {
         (b"`ifdef A a `ifdef B b `ifdef C c", b"^`"),
         (b"`ifndef abc a `endif", b"a $"),
         (b"`ifndef abcd a", b"%abcd"),
-        (b"`ifdef A `ifdef \\abcd ", b"%\\abcd"),
-        (
-            b"`define \\abc \n`define abcd 1\n`define abcd",
-            b"!` define abcd 1 %abcd",
-        ),
+        (b"`ifdef A `ifdef \\abcd `endif `ifdef \\abcd ", b"?$"),
+        (b"`define \\abc \n`define abcd 1\n`define abcd", b"!` %abcd"),
         (b"`ifdef A `define abcd\n`endif `undef abcd", b"%abcd"),
     ];
     for (text, expected) in &rows {

@@ -16,6 +16,8 @@ pub(crate) enum Directive {
     PassedOver,
     /// Another directive, or a macro.
     Other,
+    /// A `` ` `` that no word touches.
+    Alone,
 }
 
 #[tactic(auto, unfolding(crate::specs::Words::is_passed_over))]
@@ -46,10 +48,9 @@ fn is_fault_or_delay(word: &[u8]) -> bool
 }
 
 impl Directive {
-    /// The directive of this word.
-    #[tactic(auto, unfolding(crate::specs::Words::directive_of))]
-    pub(crate) fn of(word: &[u8]) -> Directive
-        ensures { result ≡ spec.directive_of word.now }
+    #[tactic(auto, unfolding(crate::specs::Words::word_directive))]
+    fn of_word(word: &[u8]) -> Directive
+        ensures { result ≡ spec.word_directive word.now }
     {
         if word == b"define".as_slice() {
             Directive::Define
@@ -69,6 +70,17 @@ impl Directive {
             Directive::PassedOver
         } else {
             Directive::Other
+        }
+    }
+
+    /// The directive of the word that touches its `` ` ``, if one does.
+    #[tactic(auto, unfolding(crate::specs::Words::directive_of))]
+    pub(crate) fn of(word: &[u8]) -> Directive
+        ensures { result ≡ spec.directive_of word.now }
+    {
+        match word {
+            [] => Directive::Alone,
+            [_, ..] => Directive::of_word(word),
         }
     }
 }

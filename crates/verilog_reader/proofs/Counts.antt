@@ -56,7 +56,7 @@ few_tokens p zero (b ∷ bs) = few_before b bs p (tokens Verilog (over b p) (siz
 
 few_items_by : (x : Turn) (rest : State → ℕ → List Left) (k : ℕ) → ((s : State) (inside : ℕ) → length (rest s inside) ≤ k) → length (directives.taken x rest) ≤ suc k
 few_items_by (Ends last) rest k h = omega arith
-few_items_by (Shows shown s) rest k h = let few = h s 0 in omega arith
+few_items_by (Shows shown inside s) rest k h = let few = h s inside in omega arith
 few_items_by (Goes inside s) rest k h = let few = h s inside in omega arith
 
 few_items : (source : List ℕ) (limits : Limits) (s : State) (inside : ℕ) (ts : List Token) → length (left_from source limits s inside ts) ≤ length ts

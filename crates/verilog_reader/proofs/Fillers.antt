@@ -133,6 +133,10 @@ and_parts : (a b : Bool) → (a && b) ≡ true → (a ≡ true) × (b ≡ true)
 and_parts true b e = (refl, e)
 and_parts false b e = absurd cc
 
+or_left : (a b : Bool) → (a || b) ≡ false → a ≡ false
+or_left true b e = absurd cc
+or_left false b e = refl
+
 not_true : (b : Bool) → not b ≡ true → b ≡ false
 not_true true e = absurd cc
 not_true false e = refl
@@ -164,7 +168,7 @@ unfolding is_filler look_of text
 idle source t on = go t.kind refl on
   where
     go : (k : Kind) → t.kind ≡ k → is_filler_text k (token_text source t) ≡ true → Idles source t
-    go kinds.Word e f = record { looks = rw e (word_idle (token_text source t) (not_true _ f)).idle; shut = ap is_end e }
+    go kinds.Word e f = record { looks = rw e (word_idle (token_text source t) (or_left (begins_end (token_text source t)) _ (not_true _ f))).idle; shut = ap is_end e }
     go kinds.Sign e f = record { looks = rw e (sign (token_text source t) f); shut = ap is_end e }
       where
         sign : (w : List ℕ) → (is_sign w && not (bytes_eq w (codes "`"))) ≡ true → is_idle (sign_of w) ≡ true

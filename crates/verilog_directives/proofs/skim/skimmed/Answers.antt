@@ -1,7 +1,6 @@
-use Rattle.std.proofs.Common.{◌≡◌, ℕ, ◌+◌, ◌-◌, ◌≤◌, length, take, drop, length-drop, refl, sym, ap, subst, ◌∙◌, arith}
+use Rattle.std.proofs.Common.{◌≡◌, ◌+◌, ◌-◌, length, take, drop, length-drop, refl, sym, ap, subst, ◌∙◌, arith}
 use Rattle.std.proofs.lemmas.List.{take_rest}
 use Rattle.text_scan.specs.declared.token.Style.TheVariants.{Verilog}
-use Rattle.text_scan.specs.declared.token.Place.{Place}
 use Rattle.text_scan.specs.Jumps.{forward}
 use Rattle.text_scan.specs.Left.{tokens_at}
 use Rattle.verilog_directives.specs.Skims.{Skims, IsBlank, IsToken}

@@ -1,4 +1,4 @@
-use Rattle.std.proofs.Common.{refl, sym, ap, subst, ◌∙◌}
+use Rattle.std.proofs.Common.{refl, sym, subst, ◌∙◌}
 use Rattle.verilog_directives.specs.Lookahead.{to_come}
 use Rattle.verilog_directives.specs.Directives.{source}
 use Rattle.verilog_directives.specs.Skims.{Skims}

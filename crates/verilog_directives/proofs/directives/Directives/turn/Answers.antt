@@ -27,21 +27,25 @@ unfolding left
 returns-then-passes-clause-ok c =
     let self = c.args.self.now in
     let token = c.take-token in
+    let line = c.line_after-self in
     ap (λ z. left_from z self.limits (state self) 0 (to_come self.tokens)) (sym token.ensures.source)
     ∙ passes token.new.self.source.now self.limits (state self) token.result _ _ token.ensures.next
     (sym c.is_end.ensures ∙ c.if-is_end.false) (sym c.is_wrong.ensures ∙ c.if-is_wrong.false) (sym c.passes.ensures ∙ c.if-passes.true)
+    ∙ ap (λ z. left_from token.new.self.source.now self.limits (record (state self) { line = z }) 0 (to_come token.new.self)) (sym line.ensures.value)
+    ∙ ap (λ z. left_from z self.limits (record (state self) { line = line.result }) 0 (to_come token.new.self)) (sym line.ensures.source)
+    ∙ ap (left_from line.new.self.source.now self.limits (record (state self) { line = line.result }) 0) (sym line.ensures.to_come)
 
 pub returns-then-passes-clause-fewer : goal.returns-then-passes-clause-fewer
 returns-then-passes-clause-fewer c =
     let token = c.take-token in
-    fewer_to_come token.new.self.source.now c.args.self.now.limits (state c.args.self.now) token.result _ _ token.ensures.next (sym c.is_end.ensures ∙ c.if-is_end.false)
+    rw c.line_after-self.ensures.to_come (fewer_to_come token.new.self.source.now c.args.self.now.limits (state c.args.self.now) token.result _ _ token.ensures.next (sym c.is_end.ensures ∙ c.if-is_end.false))
 
 pub returns-then-keeps-clause-ok : goal.returns-then-keeps-clause-ok
 unfolding left
 returns-then-keeps-clause-ok c =
     let self = c.args.self.now in
     let token = c.take-token in
-    rw c.plain-then-keeps.ensures (ap (λ z. left_from z self.limits (state self) 0 (to_come self.tokens)) (sym token.ensures.source)
+    rw (c.plain-then-keeps.ensures, c.after_kept-self.ensures) (ap (λ z. left_from z self.limits (state self) 0 (to_come self.tokens)) (sym token.ensures.source)
     ∙ keeps token.new.self.source.now self.limits (state self) token.result _ _ token.ensures.next
     (sym c.is_end.ensures ∙ c.if-is_end.false) (sym c.is_wrong.ensures ∙ c.if-is_wrong.false) (sym c.passes.ensures ∙ c.if-passes.false)
     (sym c.keeps.ensures ∙ c.if-keeps.true))
@@ -64,7 +68,7 @@ unfolding left
 returns-then-is_read-clause-ok c =
     let self = c.args.self.now in
     let token = c.take-token in
-    rw c.plain-then-is_read.ensures (ap (λ z. left_from z self.limits (state self) 0 (to_come self.tokens)) (sym token.ensures.source)
+    rw (c.plain-then-is_read.ensures, c.after_token-self.ensures) (ap (λ z. left_from z self.limits (state self) 0 (to_come self.tokens)) (sym token.ensures.source)
     ∙ shows_read token.new.self.source.now self.limits (state self) token.result _ _ token.ensures.next
     (sym c.is_end.ensures ∙ c.if-is_end.false) (sym c.is_wrong.ensures ∙ c.if-is_wrong.false) (sym c.passes.ensures ∙ c.if-passes.false)
     (sym c.keeps.ensures ∙ c.if-keeps.false) (sym c.is_mark.ensures ∙ c.if-is_mark.false) (sym c.is_read.ensures ∙ c.if-is_read.true))

@@ -1,4 +1,4 @@
-use Rattle.std.proofs.Common.{◌≡◌, ◌≤◌, drop, length, refl, sym, ap, ◌∙◌, arith}
+use Rattle.std.proofs.Common.{refl, arith}
 use Rattle.verilog_directives.specs.Lookahead.{to_come}
 use Rattle.verilog_directives.proofs.Behinds.{start_stands, moved_start}
 use Rattle.verilog_directives.proofs.lookahead.Lookahead.new.Goals as goal

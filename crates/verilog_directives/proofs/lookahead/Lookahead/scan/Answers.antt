@@ -1,6 +1,5 @@
-use Rattle.std.proofs.Common.{◌≡◌, ◌≤◌, drop, length, sym, subst, ap, ◌∙◌, arith}
+use Rattle.std.proofs.Common.{drop, subst, ◌∙◌, arith}
 use Rattle.text_scan.specs.Left.{IsSliceOf}
-use Rattle.verilog_directives.specs.Behind.{moved_on}
 use Rattle.verilog_directives.proofs.Behinds.{stand_on, moved_next, moved_stays, moved_slice, moved_bounds}
 use Rattle.verilog_directives.proofs.lookahead.Lookahead.scan.Goals as goal
 

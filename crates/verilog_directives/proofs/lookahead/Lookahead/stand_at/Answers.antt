@@ -1,9 +1,7 @@
-use Rattle.std.proofs.Common.{◌≡◌, ◌≤◌, drop, length, take, refl, sym, subst, ap, ◌∙◌, arith}
+use Rattle.std.proofs.Common.{refl, ap, ◌∙◌, arith}
 use Rattle.std.proofs.lemmas.List.{take_rest}
 use Rattle.text_scan.specs.declared.token.Style.TheVariants.{Verilog}
 use Rattle.text_scan.specs.Tokens.{tokens_of}
-use Rattle.text_scan.proofs.Moved.{IsPlace}
-use Rattle.verilog_directives.specs.Behind.{moved_on}
 use Rattle.verilog_directives.specs.Lookahead.{to_come}
 use Rattle.verilog_directives.proofs.Behinds.{begun_there, place_stands, is_place}
 use Rattle.verilog_directives.proofs.lookahead.Lookahead.stand_at.Goals as goal
