@@ -208,6 +208,7 @@ module _ (source : List ℕ) (limits : Limits) where
   value_ok looks.Colon m t ts deep h = value_ends m t ts (rw h refl) ∙ rw h refl
   value_ok looks.End m t ts deep h = value_ends m t ts (rw h refl) ∙ rw h refl
   value_ok looks.Unfinished m t ts deep h = value_ends m t ts (rw h refl) ∙ rw h refl
+  value_ok looks.Unnamed m t ts deep h = value_ends m t ts (rw h refl) ∙ rw h refl
   value_ok l m t ts deep h = add_ok m t ts (rw h refl)
 
   -- ---- arguments

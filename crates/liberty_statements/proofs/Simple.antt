@@ -5,7 +5,7 @@ use Rattle.text_scan.specs.declared.limits.Limits.{Limits}
 use Rattle.grammar.specs.Rule.{none}
 use Rattle.grammar.specs.Reading.{nullable, short, begins, IsSimple}
 use Rattle.liberty_tokens.specs.declared.look.Look.{Look}
-use Rattle.liberty_tokens.specs.declared.look.Look.TheVariants.{Word, Str, OpenParen, CloseParen, OpenBrace, Semicolon, Colon, Comma, OtherSign, LineEnd}
+use Rattle.liberty_tokens.specs.declared.look.Look.TheVariants.{Word, Str, OpenParen, CloseParen, OpenBrace, Semicolon, Colon, Comma, LineEnd}
 use Rattle.liberty_tokens.specs.Looks.{look_of, text, is_word, is_arg, is_value, is_open_paren, is_open_brace, is_close_brace, is_semicolon, is_colon, is_comma, is_line, is_end}
 use Rattle.liberty_tokens.specs.Words.{is_include}
 use Rattle.liberty_statements.specs.Actions.{add_value}
@@ -22,7 +22,6 @@ value_no_end Str e = refl
 value_no_end OpenParen e = refl
 value_no_end CloseParen e = refl
 value_no_end Comma e = refl
-value_no_end OtherSign e = refl
 value_no_end _ e = absurd cc
 
 semicolon_no_line : (l : Look) → is_semicolon l ≡ true → ((is_line l || is_close_brace l) || false) ≡ false

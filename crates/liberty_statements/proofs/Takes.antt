@@ -59,6 +59,7 @@ value_fine source limits t looks.OpenBrace m d = tt
 value_fine source limits t looks.Colon m d = tt
 value_fine source limits t looks.End m d = tt
 value_fine source limits t looks.Unfinished m d = tt
+value_fine source limits t looks.Unnamed m d = tt
 value_fine source limits t l m d = moved_fine true l phases.Value m (add_value source limits t m.statements) d refl
 
 open_fine : (t : Token) (l : Look) (m : Machine) → 1 ≤ m.depth → Fine false l (in_open t l m)

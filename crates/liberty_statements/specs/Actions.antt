@@ -1,5 +1,5 @@
 -- What a library's statements leave: the cells, each with its groups, each with its attributes.
-use Rattle.std.specs.Prelude.{ℕ, zero, suc, ◌+◌, ◌-◌, Bool, true, false, ◌==◌, ◌&&◌, nat_lt, nat_le, if◌then◌else◌, List, [], ◌∷◌, ◌++◌, length, slice_range, Option, Some, None, Result, Ok, Err}
+use Rattle.std.specs.Prelude.{ℕ, zero, suc, ◌+◌, ◌-◌, Bool, true, false, ◌==◌, ◌&&◌, nat_lt, nat_le, if◌then◌else◌, List, [], ◌∷◌, ◌++◌, length, take, filter, slice_range, Option, Some, None, Result, Ok, Err}
 use Rattle.std.specs.List.{list_any}
 use Rattle.text_scan.specs.declared.token.Token.{Token}
 use Rattle.text_scan.specs.declared.limits.Limits.{Limits}
@@ -19,7 +19,7 @@ use Rattle.liberty_tokens.specs.Looks.{text}
 use Rattle.liberty_tokens.specs.Words.{group_kind, attribute_kind, is_cell}
 use Rattle.name_index.specs.Places.{is_known}
 use Rattle.file_rules.specs.Names.{is_name, is_too_long}
-use Rattle.liberty_tokens.specs.Names.{content, columns}
+use Rattle.liberty_tokens.specs.Names.{content, columns, is_string}
 
 abbrev pub Outcome : Type 0
 Outcome = Result Statements Refusal
@@ -132,7 +132,10 @@ has_long_variable source limits (t ∷ ts) = if is_long_variable source limits t
 abbrev pub has_long_column : Limits → List (List ℕ) → Bool
 has_long_column limits names = list_any (λ c. is_too_long limits c) names
 
--- an argument of statetable has columns, which are names
+-- the arguments of statetable whose columns are names: two strings, the inputs and the nodes; a word, or a third string, has none
+unfoldable pub column_strings : List Token → List Token
+column_strings ts = take 2 (filter (λ t. is_string t.kind) ts)
+
 unfoldable pub is_long_row : List ℕ → Limits → Token → Bool
 is_long_row source limits t = has_long_column limits (columns (content source t))
 
@@ -149,7 +152,7 @@ add_names source limits groups.Pin ts names = add_pin_names source limits ts nam
 add_names source limits groups.PgPin ts names = add_pin_names source limits ts names
 add_names source limits groups.Ff ts names = unless_long (has_long_variable source limits ts) names
 add_names source limits groups.Latch ts names = unless_long (has_long_variable source limits ts) names
-add_names source limits groups.StateTable ts names = unless_long (has_long_row source limits ts) names
+add_names source limits groups.StateTable ts names = unless_long (has_long_row source limits (column_strings ts)) names
 add_names source limits groups.Unread ts names = Ok names
 add_names source limits groups.Other ts names = Ok names
 

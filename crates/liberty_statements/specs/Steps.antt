@@ -80,6 +80,7 @@ in_value source limits t looks.OpenBrace m = stopped
 in_value source limits t looks.Colon m = stopped
 in_value source limits t looks.End m = stopped
 in_value source limits t looks.Unfinished m = stopped
+in_value source limits t looks.Unnamed m = stopped
 in_value source limits t _ m = moved phases.Value m (add_value source limits t m.statements)
 
 abbrev pub in_open : Token → Look → Machine → Moved

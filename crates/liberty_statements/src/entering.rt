@@ -11,7 +11,7 @@ use liberty_tokens::{GroupKind, columns, content, group_kind, is_cell, text};
 use name_index::Names;
 use std::alloc::Global;
 use std::mem;
-use text_scan::{Items, LimitKind, Limits, NoMemory, Text, Token};
+use text_scan::{Items, Kind, LimitKind, Limits, NoMemory, Text, Token};
 
 // The use of a pin's name.
 #[tactic(auto, unfolding(crate::specs::Actions::add_pin_name))]
@@ -92,7 +92,20 @@ fn has_long_column(limits: &Limits, columns: &[Text]) -> bool
         .any(|column| is_too_long(limits, column.as_bytes()))
 }
 
-// An argument of `statetable`.
+// The strings of `statetable` whose columns are names.
+#[tactic(auto, unfolding(crate::specs::Actions::column_strings))]
+fn column_strings(alloc: Global, args: &[Token]) -> Result<Vec<Token>, NoMemory>
+    ensures { IfOk result (λ strings. strings.items ≡ spec.column_strings args.now) }
+{
+    let strings = args
+        .iter()
+        .copied()
+        .filter(|arg| matches!(arg.kind, Kind::Str))
+        .take(2)
+        .collect(alloc)?;
+    Ok(strings)
+}
+
 #[tactic(auto, unfolding(crate::specs::Actions::is_long_row))]
 fn is_long_row(
     alloc: Global,
@@ -145,7 +158,8 @@ fn add_names(
             Ok(())
         }
         GroupKind::StateTable => {
-            if has_long_row(alloc, source, limits, tokens)? {
+            let strings = column_strings(alloc, tokens)?;
+            if has_long_row(alloc, source, limits, &strings)? {
                 return Err(Halt::Refused(Refusal::TooMany(LimitKind::Name)));
             }
             Ok(())

@@ -208,12 +208,12 @@ impl Machine {
         match look {
             Look::Semicolon | Look::LineEnd => self.end_value(source, token),
             Look::CloseBrace => self.in_closing(alloc, source),
-            Look::OpenBrace | Look::Colon | Look::End | Look::Unfinished => Err(Halt::Syntax),
-            _ => {
+            Look::Word | Look::Str | Look::OpenParen | Look::CloseParen | Look::Comma => {
                 self.statements.add_value(alloc, source, limits, token)?;
                 self.phase = Phase::Value;
                 Ok(())
             }
+            _ => Err(Halt::Syntax),
         }
     }
 

@@ -4,8 +4,9 @@ use Rattle.text_scan.specs.declared.token.Kind.{Kind}
 use Rattle.text_scan.specs.declared.token.Kind.TheVariants as kinds
 use Rattle.text_scan.specs.declared.token.Token.{Token}
 use Rattle.liberty_tokens.specs.declared.look.Look.{Look}
-use Rattle.liberty_tokens.specs.declared.look.Look.TheVariants.{Word, Str, OpenParen, CloseParen, OpenBrace, CloseBrace, Semicolon, Colon, Comma, OtherSign, LineEnd, End, Unfinished}
+use Rattle.liberty_tokens.specs.declared.look.Look.TheVariants.{Word, Str, OpenParen, CloseParen, OpenBrace, CloseBrace, Semicolon, Colon, Comma, Unnamed, LineEnd, End, Unfinished}
 
+-- a byte that is a token by itself: a sign of Liberty's, or one that no rule names
 unfoldable pub sign_look : ℕ → Look
 sign_look b =
     if b == 40 then OpenParen else
@@ -15,7 +16,7 @@ sign_look b =
     if b == 59 then Semicolon else
     if b == 58 then Colon else
     if b == 44 then Comma else
-    OtherSign
+    Unnamed
 
 abbrev pub byte_at : List ℕ → ℕ → ℕ
 byte_at source at = slice_index source at
@@ -45,14 +46,13 @@ is_arg Word = true
 is_arg Str = true
 is_arg _ = false
 
--- any token but ; : { } and the ends
+-- any token but ; : { }, the ends and bytes that no rule names
 abbrev pub is_value : Look → Bool
 is_value Word = true
 is_value Str = true
 is_value OpenParen = true
 is_value CloseParen = true
 is_value Comma = true
-is_value OtherSign = true
 is_value _ = false
 
 abbrev pub is_open_paren : Look → Bool

@@ -16,7 +16,8 @@ pub enum Look {
     Semicolon,
     Colon,
     Comma,
-    OtherSign,
+    /// A byte that no rule names.
+    Unnamed,
     LineEnd,
     End,
     Unfinished,
@@ -34,7 +35,7 @@ fn sign_look(byte: u8) -> Look
         b';' => Look::Semicolon,
         b':' => Look::Colon,
         b',' => Look::Comma,
-        _ => Look::OtherSign,
+        _ => Look::Unnamed,
     }
 }
 

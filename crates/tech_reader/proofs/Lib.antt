@@ -3,3 +3,4 @@ pub mod Reading
 pub mod Entering
 pub mod Whole
 pub mod Joined
+pub mod Lawful

@@ -1,7 +1,9 @@
 //! The public call.
 ghost use Rattle.tech_reader.specs.Records.{records_of};
 ghost use Rattle.tech_reader.specs.Tech.{told};
+ghost use Rattle.std.specs.Prelude.{IfOk};
 ghost use Rattle.file_rules.specs.Told.{Agrees};
+ghost use Rattle.circuit.specs.Tech.{IsTech};
 
 use crate::parts::Parts;
 use crate::rows::{next_row, open};
@@ -16,7 +18,8 @@ use text_scan::{FileRefusal, Limits};
 /// which one is refused. Its line is the record's number and its column the field's, both from 1; column 0 tells of
 /// another number of fields than four. Only want of memory is not told by the definition.
 pub fn read_tech(alloc: Global, text: &[u8], limits: &Limits) -> Result<Tech, FileRefusal>
-    ensures { Agrees result (told limits.now (records_of text.now)) }
+    ensures told { Agrees result (told limits.now (records_of text.now)) }
+    ensures kept { IfOk result (λ tech. IsTech limits.now tech) }
 {
     let mut reader = open(alloc, text);
     let mut row = ByteRecord::new(alloc);
