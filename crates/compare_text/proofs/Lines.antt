@@ -59,6 +59,7 @@ glyph_inside d = by_test (nat_lt d 10)
   where
     high : (n k : ℕ) → 10 < n → is_inside (n + k) ≡ true
     high n k h = grind (arith, nat_tests)
+
     by_test : (t : Bool) → is_inside (if t then 48 + d else (87 + d)) ≡ true
     by_test true = high 48 d (omega arith)
     by_test false = high 87 d (omega arith)

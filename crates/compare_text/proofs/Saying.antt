@@ -256,7 +256,7 @@ block_line name c h g =
     let first : is_line (codes "compare " ++ name) ≡ true = joined_line (codes "compare ") name refl (graphic_line name h) in
     let last : list_all is_line ((codes "verdict " ++ verdict_word (verdict_of c)) ∷ []) ≡ true = rw (verdict_line c) refl in
     let rest : list_all is_line (found_front c ++ (codes "verdict " ++ verdict_word (verdict_of c)) ∷ []) ≡ true =
-        all_joined is_line (found_front c) _ (found_line c g) last in
+    all_joined is_line (found_front c) _ (found_line c g) last in
     rw (first, rest) refl
 
 said : List ℕ → Comparison → SaidCell
@@ -282,15 +282,14 @@ block_said name c ls =
     name_said name ((found_front c ++ (codes "verdict " ++ word) ∷ []) ++ ls)
     ∙ ap (λ rest. record { name = name; verdict = first_behind (codes "verdict ") rest } ∷ cells_said front rest) tail
     ∙ ap (λ v. record { name = name; verdict = v } ∷ cells_said front (found_front c ++ ((codes "verdict " ++ word) ∷ ls)))
-      (quiet_first front (found_front c) ((codes "verdict " ++ word) ∷ ls) (found_quiet c) ∙ first_verdict word ls)
+    (quiet_first front (found_front c) ((codes "verdict " ++ word) ∷ ls) (found_quiet c) ∙ first_verdict word ls)
     ∙ ap (λ cs. record { name = name; verdict = Some word } ∷ cs) (quiet_said front (found_front c) ((codes "verdict " ++ word) ∷ ls) (found_quiet c) ∙ verdict_unsaid word ls)
 
 -- ---- the report
 
 module _ (limits : Limits) (source : Source) (is : IsSource limits source)
-  (shown : (part : CellPart) (c : Comparison) → is_part limits part ≡ true → IsComparison part source c → AreGraphic (told_texts c))
-  (law : (part : CellPart) (c : Comparison) → IsComparison part source c → SaysEqual c → IsEqualPart part source) where
-
+    (shown : (part : CellPart) (c : Comparison) → is_part limits part ≡ true → IsComparison part source c → AreGraphic (told_texts c))
+    (law : (part : CellPart) (c : Comparison) → IsComparison part source c → SaysEqual c → IsEqualPart part source) where
   name_graphic : (p : CellPart) → is_part limits p ≡ true → are_graphic (cell_name p) ≡ true
   name_graphic (cells.Whole cell) h = within_graphic limits cell.name (both_true _ _ (both_true _ _ (both_true _ _ h).0).0).0
   name_graphic (cells.Refused name construct line) h = within_graphic limits name (both_true _ _ h).0
@@ -310,7 +309,7 @@ module _ (limits : Limits) (source : Source) (is : IsSource limits source)
       let b : (is_part limits p ≡ true) × (list_all (is_part limits) parts ≡ true) = both_true _ _ h in
       let more : List ℕ = blocks parts cs ++ rest in
       let text : (block (cell_name p) c ++ blocks parts cs) ++ rest ≡ flat_map line (block_front (cell_name p) c) ++ more =
-          append_assoc (block (cell_name p) c) (blocks parts cs) rest ∙ ap (λ t. t ++ more) (block_joined (cell_name p) c) in
+      append_assoc (block (cell_name p) c) (blocks parts cs) rest ∙ ap (λ t. t ++ more) (block_joined (cell_name p) c) in
       let whole : list_all is_line (block_front (cell_name p) c) ≡ true = block_line (cell_name p) c (name_graphic p b.0) (shown p c b.0 a.0) in
       ap (λ t. cells_said front (lines_of t)) text
       ∙ ap (cells_said front) (many_lines (block_front (cell_name p) c) more whole)
@@ -369,9 +368,9 @@ module _ (limits : Limits) (source : Source) (is : IsSource limits source)
   report_truly library report kept r k s e =
       let rest : List ℕ = line (total_words (totals_of r.comparisons)) ++ line (codes "end") in
       let text : report.text ≡ blocks library.cells r.comparisons ++ rest =
-          r.text ∙ append_assoc (blocks library.cells r.comparisons) (line (total_words (totals_of r.comparisons))) (line (codes "end")) in
+      r.text ∙ append_assoc (blocks library.cells r.comparisons) (line (total_words (totals_of r.comparisons))) (line (codes "end")) in
       let all : cells_compared report.text ≡ saids library.cells r.comparisons =
-          ap (λ t. cells_said front (lines_of t)) text ∙ blocks_said library.cells r.comparisons rest kept.cells r.each (nothing_said r.comparisons) in
+      ap (λ t. cells_said front (lines_of t)) text ∙ blocks_said library.cells r.comparisons rest kept.cells r.each (nothing_said r.comparisons) in
       let t = said_truly library.cells r.comparisons r.each k s (sym (ap (λ ss. slice_get ss k) all) ∙ e) in
       record { part = t.part; is_cell = t.is_cell; name = t.name; equal = t.equal }
 

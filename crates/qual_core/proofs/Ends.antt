@@ -76,15 +76,9 @@ part_writes_truly words file old new text truly part accepted =
     subst (λ t. SaysEqualTruly accepted.files.library accepted.files.source t) (sym (written old (take part.0 text) new part.2)) front
 
 -- nothing was written
-pub nothing_truly : (words : List (List ℕ)) (file : List ℕ → Option (List ℕ)) (old new : List ℕ) → new ≡ old → WritesTruly words file old new
-nothing_truly words file old new e accepted k said h =
-    let none : drop (length old) new ≡ [] = written old [] new (e ∙ sym (append-nil old)) in
-    let nothing : slice_get (cells_compared []) k ≡ Some said = sym (ap (λ t. slice_get (cells_compared t) k) none) ∙ h in
-    absurd (no_cells k said nothing)
-  where
-    no_cells : (k : ℕ) (said : SaidCell) → slice_get (cells_compared []) k ≡ Some said → ⊥
-    unfolding lines_of cells_said
-    no_cells k said h = cc
+no_cells : (k : ℕ) (said : SaidCell) → slice_get (cells_compared []) k ≡ Some said → ⊥
+unfolding lines_of cells_said
+no_cells k said h = cc
 
 some_command : (command : Option Command) (words : List (List ℕ)) (file : List ℕ → Option (List ℕ)) (reply : Reply) → IsReplyTo command words file reply → reply.status ≡ FileRefused → IsSome command
 some_command None words file reply o e = absurd (let f : Usage ≡ FileRefused = sym (ap (λ (r : Reply). r.status) o) ∙ e in cc)

@@ -248,10 +248,7 @@ fn add_file(
 }
 
 // The files that the words name, in reading order.
-fn files_named(
-    alloc: Global,
-    words: &[String],
-) -> Result<Items<(Text, usize)>, NoMemory>
+fn files_named(alloc: Global, words: &[String]) -> Result<Items<(Text, usize)>, NoMemory>
     ensures { IfOk result (λ files. files ≡ spec.files_named (texts words.now) spec.all_files) }
 {
     let mut files = Items::new(alloc);

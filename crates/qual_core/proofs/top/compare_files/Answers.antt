@@ -31,7 +31,7 @@ returns-in-Ok-2-clause-reply g c told =
     (λ (r : Reply). (limits : Limits) → IsLibrary limits c.in-Ok.library → IsSource limits c.in-Ok-2.source → SaysEqualTruly c.in-Ok.library c.in-Ok-2.source r.text)
     (IsCompareAnswer liberty verilog file)
     (λ reply i d u. both_compared liberty verilog file c.in-Ok.library c.in-Ok-2.source reply l t i d
-        (u standard (library_kept l.bytes c.in-Ok.library l.is) (source_kept t.bytes c.in-Ok-2.source t.is)))
+    (u standard (library_kept l.bytes c.in-Ok.library l.is) (source_kept t.bytes c.in-Ok-2.source t.is)))
     c.compared.ensures.compared c.compared.ensures.verdict c.compared.ensures.truly
 
 pub returns-clause-reply : goal.returns-clause-reply
