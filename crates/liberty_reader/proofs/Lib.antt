@@ -1,3 +1,4 @@
+pub mod Lawful
 pub mod CellLists
 pub mod Made
 pub mod Public

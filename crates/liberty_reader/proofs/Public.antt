@@ -16,6 +16,9 @@ use Rattle.liberty_statements.specs.Does.{nothing}
 use Rattle.liberty_reader.specs.Promise.{IsAnswered}
 use Rattle.liberty_statements.specs.ToCome.{Answer}
 use Rattle.liberty_statements.proofs.Simple.{file_simple}
+use Rattle.liberty_statements.proofs.KeepingSteps.{statements_kept}
+use Rattle.liberty_source.specs.Library.{IsLibrary}
+use Rattle.liberty_reader.proofs.Lawful.{lawful}
 
 module _ (source : List ℕ) (limits : Limits) where
   abbrev pub whole_answer : Answer
@@ -50,3 +53,22 @@ module _ (source : List ℕ) (limits : Limits) where
   pub only_one : (result : Result Library FileRefusal) → Agrees result (told source limits (library source) whole_answer)
       → (o : Answer) → IsAnswer (library_file source limits) nothing (file_tokens source) o → Agrees result (told source limits (library source) o)
   only_one result h o is = let P : Answer → Type 0 = λ a. Agrees result (told source limits (library source) a) in subst P (answer_is_read (library_file source limits) simple nothing (file_tokens source) o is) h
+
+  was_read : (a : Answer) (s : Statements) → told source limits same a ≡ Ok s → a ≡ Ok s
+  was_read (Ok t) s e = let same : t ≡ s = cc e in ap Ok same
+  was_read (Err (syntax rest)) s e = absurd cc
+  was_read (Err (refusal r rest)) s e = absurd cc
+
+  pub lawful_of : (s : Statements) (l : Library) → told source limits same whole_answer ≡ Ok s → l ≡ library source s → IsLibrary limits l
+  lawful_of s l h e = subst (IsLibrary limits) (sym e) (lawful source limits s (statements_kept source limits s (was_read whole_answer s h)))
+
+  -- what is told of the answer that the grammar gives
+  told_well : (a : Answer) (l : Library) → whole_answer ≡ a → told source limits (library source) a ≡ Ok l → IsLibrary limits l
+  told_well (Ok s) l w e = let same : library source s ≡ l = cc e in subst (IsLibrary limits) same (lawful source limits s (statements_kept source limits s w))
+  told_well (Err (syntax rest)) l w e = absurd cc
+  told_well (Err (refusal r rest)) l w e = absurd cc
+
+-- A library that is answered has names, directed pins, words that can be shown, and no name twice.
+pub library_kept : (text : List ℕ) (limits : Limits) (l : Library) → IsAnswered text limits (Ok l) → IsLibrary limits l
+library_kept text limits l h =
+    told_well text limits h.answer l (answer_is_read (library_file text limits) (simple text limits) nothing (file_tokens text) h.answer h.is) h.agrees

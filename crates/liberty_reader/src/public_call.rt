@@ -1,10 +1,11 @@
 //! The public call.
-ghost use Rattle.std.specs.Prelude.{◌≡◌, ◌≤◌};
+ghost use Rattle.std.specs.Prelude.{◌≡◌, ◌≤◌, IfOk};
 ghost use Rattle.grammar.specs.Answers.{IsAnswer};
 ghost use Rattle.liberty_statements.specs.Answer.{library_file, file_tokens, told};
 ghost use Rattle.file_rules.specs.Told.{Agrees};
 ghost use Rattle.liberty_reader.specs.Cells.{library as library_of};
 ghost use Rattle.liberty_statements.specs.Does.{nothing};
+ghost use Rattle.liberty_source.specs.Library.{IsLibrary};
 ghost use Rattle.liberty_reader.specs.Promise.{IsAnswered, IsWithin};
 ghost use Rattle.liberty_statements.specs.ToCome.{Answer};
 
@@ -24,6 +25,8 @@ pub fn read_library(alloc: Global, text: &[u8], limits: &Limits) -> Result<Libra
     ensures answered { IsAnswered text.now limits.now result }
     // No other answer is there: whatever the grammar gives the text is told.
     ensures only { (o : Answer) → IsAnswer (library_file text.now limits.now) nothing (file_tokens text.now) o → Agrees result (told text.now limits.now (library_of text.now) o) }
+    // What is kept has names, directed pins and words that can be shown, and nothing twice.
+    ensures kept { IfOk result (λ library. IsLibrary limits.now library) }
 {
     match read_statements(alloc, text, limits) {
         Err(refusal) => Err(refusal),

@@ -1,6 +1,6 @@
 use Rattle.std.proofs.Common.{Ok, Err}
 use Rattle.text_scan.specs.declared.refusal.FileRefusal.TheVariants as refusals
-use Rattle.liberty_reader.proofs.Public.{kept, made, answered, only_one}
+use Rattle.liberty_reader.proofs.Public.{kept, lawful_of, made, answered, only_one}
 use Rattle.liberty_reader.proofs.public_call.read_library.Goals as goal
 
 pub returns-in-Err-clause-answered : goal.returns-in-Err-clause-answered
@@ -17,3 +17,6 @@ returns-clause-answered c = answered c.args.text.now c.args.limits.now (Ok c.in-
 
 pub returns-clause-only : goal.returns-clause-only
 returns-clause-only c = only_one c.args.text.now c.args.limits.now (Ok c.in-Ok-library.made) (made c.args.text.now c.args.limits.now c.in-Ok.statements c.in-Ok-library.made c.in-Ok.ensures c.in-Ok-library.ensures)
+
+pub returns-clause-kept : goal.returns-clause-kept
+returns-clause-kept c = lawful_of c.args.text.now c.args.limits.now c.in-Ok.statements c.in-Ok-library.made c.in-Ok.ensures c.in-Ok-library.ensures
