@@ -1,5 +1,5 @@
 -- What holds of the state before a rule and after it, and what is known of a refusal of the rule.
-use Rattle.std.proofs.Common.{◌≡◌, ℕ, zero, suc, Bool, true, List, [], ◌∷◌, Result, Ok, Err, ◌⊎◌, inl, inr, refl, sym, subst, ◌∙◌}
+use Rattle.std.proofs.Common.{◌≡◌, ℕ, zero, suc, Bool, true, List, [], Result, Ok, Err, ◌⊎◌, inl, inr, refl, subst}
 use Rattle.grammar.specs.Rule.{Rule, none, one, before, seq, alt, many, Takes, Turns, Front, Acts}
 
 -- where P holds before the rule, Q holds behind it, and R of a refusal on the way

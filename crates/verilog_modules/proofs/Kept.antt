@@ -1,42 +1,31 @@
 -- What is kept of a module: names within the limit, ports with directions, supplies and instances of such names.
-use Rattle.std.proofs.Common.{◌≡◌, ℕ, zero, suc, ◌≤◌, Bool, true, false, ◌&&◌, ◌||◌, List, [], ◌∷◌, ◌++◌, length, map, Option, Some, None, Result, Ok, Err, ◌⊎◌, inl, inr, refl, sym, ap, subst, arith, codes, ◌∙◌}
+use Rattle.std.proofs.Common.{◌≡◌, ℕ, zero, suc, ◌≤◌, Bool, true, false, ◌&&◌, ◌||◌, List, [], ◌∷◌, ◌++◌, length, Option, Some, None, refl, sym, ap, subst, arith, codes, ◌∙◌}
 use Rattle.std.specs.Prelude.{if◌then◌else◌, ◌==◌, nat_le, slice_get, slice_set}
-use Rattle.std.specs.List.{list_all, list_any}
+use Rattle.std.specs.List.{list_all}
 use Rattle.std.specs.Str.{bytes_eq}
-use Rattle.std.proofs.lemmas.Bool.{leb-true, le-leb}
+use Rattle.std.proofs.lemmas.Bool.{le-leb}
 use Rattle.std.proofs.lemmas.Slice.Eq.{bytes_eq-Decides}
 use Rattle.text_scan.specs.declared.limits.Limits.{Limits}
 use Rattle.text_scan.specs.declared.pins.Direction.{Direction}
 use Rattle.text_scan.specs.declared.pins.Direction.TheVariants as directions
 use Rattle.text_scan.specs.declared.token.Kind.{Kind}
 use Rattle.text_scan.specs.declared.token.Kind.TheVariants as kinds
-use Rattle.tern_core.specs.declared.tern.Tern.{Tern}
-use Rattle.tern_core.specs.declared.tern.Tern.TheVariants as terns
-use Rattle.file_rules.specs.Names.{is_name, is_too_long, is_name_within, is_distinct, is_shown, is_mark, is_name_byte, is_no_name_byte}
-use Rattle.file_rules.specs.Kept.{both_true, is_distinct-push, name_within, name_shown}
-use Rattle.name_index.specs.Places.{is_known, place_of}
+use Rattle.file_rules.specs.Names.{is_name, is_name_within, is_mark, is_name_byte, is_no_name_byte}
+use Rattle.file_rules.specs.Kept.{both_true}
+use Rattle.name_index.specs.Places.{place_of}
 use Rattle.verilog_directives.specs.declared.left.Left.{Left}
 use Rattle.verilog_directives.specs.declared.left.Role.{Role}
 use Rattle.verilog_directives.specs.declared.left.Role.TheVariants as roles
-use Rattle.verilog_looks.specs.declared.halt.Refusal.{Refusal}
-use Rattle.verilog_looks.specs.declared.halt.Refusal.TheVariants as refusals
 use Rattle.verilog_looks.specs.declared.look.Look.{Look}
 use Rattle.verilog_looks.specs.declared.look.Look.TheVariants as variants
 use Rattle.verilog_looks.specs.Looks as looks
 use Rattle.verilog_looks.specs.Looks.{look_of, role_look, word_look, identifier_look, longer_look, three_look, four_look, five_look, six_look, seven_look, long_look, number_look, sign_look, other_look, text}
-use Rattle.verilog_looks.specs.Names.{content, named}
-use Rattle.verilog_source.specs.Source.{is_port_direction, is_port, is_constant, is_supply, is_terminal, is_element, is_module, port_name}
+use Rattle.verilog_source.specs.Source.{is_port_direction, is_port, is_constant}
 use Rattle.verilog_source.specs.declared.module.Port.{Port}
-use Rattle.verilog_source.specs.declared.module.Element.{Element}
-use Rattle.verilog_source.specs.declared.module.Terminal.{Terminal}
-use Rattle.verilog_source.specs.declared.module.Terminal.TheVariants.{Net, Constant}
-use Rattle.verilog_modules.specs.declared.module_text.ModuleText.{ModuleText}
 use Rattle.verilog_modules.specs.declared.module_text.Declared.{Declared}
 use Rattle.verilog_modules.specs.declared.module_text.Declared.TheVariants as declares
-use Rattle.verilog_modules.specs.declared.module_phase.ModuleAction.{ModuleAction}
-use Rattle.verilog_modules.specs.declared.module_phase.ModuleAction.TheVariants as actions
-use Rattle.verilog_modules.specs.Ports.{name_of, names_of, is_absent, direct, direct_port, direct_at, directed, undirected}
-use Rattle.verilog_modules.specs.ModuleActions.{ModuleOutcome, no_module, perform, add_name, add_port, declare, or_here, unless_undirected, direction_of, declared_of, constant_of}
+use Rattle.verilog_modules.specs.Ports.{names_of, is_absent, direct, direct_port, direct_at, directed, undirected}
+use Rattle.verilog_modules.specs.ModuleActions.{direction_of, declared_of, constant_of}
 
 -- ---- lists
 

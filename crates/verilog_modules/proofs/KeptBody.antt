@@ -6,7 +6,6 @@ use Rattle.file_rules.specs.Names.{is_name_within, is_distinct}
 use Rattle.verilog_source.specs.Source.{is_port, is_module, port_name as port_name_of}
 use Rattle.grammar.specs.Rule.{none, one}
 use Rattle.verilog_directives.specs.declared.left.Left.{Left}
-use Rattle.verilog_looks.specs.declared.halt.Refusal.{Refusal}
 use Rattle.verilog_looks.specs.declared.look.Look.{Look}
 use Rattle.verilog_looks.specs.declared.look.Look.TheVariants as variants
 use Rattle.verilog_looks.specs.Looks as looks

@@ -1,5 +1,5 @@
 -- What is kept of a module, behind each item that is read.
-use Rattle.std.proofs.Common.{◌≡◌, ℕ, ◌≤◌, Bool, true, false, ◌&&◌, List, [], ◌∷◌, ◌++◌, map, length, Option, Some, None, Result, Ok, Err, refl, sym, subst, arith, ◌∙◌}
+use Rattle.std.proofs.Common.{◌≡◌, ℕ, ◌≤◌, Bool, true, false, List, [], ◌∷◌, ◌++◌, length, Option, Some, None, Ok, Err, refl, sym, subst, arith}
 use Rattle.std.specs.Prelude.{if◌then◌else◌, nat_le}
 use Rattle.std.specs.List.{list_all}
 use Rattle.std.proofs.lemmas.Bool.{leb-true, le-leb}
@@ -14,7 +14,7 @@ use Rattle.verilog_looks.specs.declared.halt.Refusal.{Refusal}
 use Rattle.verilog_looks.specs.declared.halt.Refusal.TheVariants as refusals
 use Rattle.verilog_looks.specs.Looks.{look_of, text}
 use Rattle.verilog_looks.specs.Names.{content, named}
-use Rattle.verilog_source.specs.Source.{is_constant, is_supply, is_terminal, is_element}
+use Rattle.verilog_source.specs.Source.{is_supply, is_terminal, is_element}
 use Rattle.verilog_source.specs.declared.module.Port.{Port}
 use Rattle.verilog_source.specs.declared.module.Element.{Element}
 use Rattle.verilog_source.specs.declared.module.Terminal.{Terminal}
