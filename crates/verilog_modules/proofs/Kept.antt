@@ -82,6 +82,7 @@ directed_port limits ps qs at d (Some p) e k h f = go (is_absent p.direction) f
   where
     here : has_port limits (direct d p) ≡ true
     here = let name = (both_true (is_name_within limits p.name) (is_portlike p.direction) (all_at (has_port limits) ps at p e h)).0 in rw (name, k) refl
+
     go : (b : Bool) → (if b then Some (slice_set ps at (direct d p)) else None) ≡ Some qs → Directed limits ps qs
     go false f = absurd (cc)
     go true f =
