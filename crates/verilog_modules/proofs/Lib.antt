@@ -5,3 +5,7 @@ pub mod Keeping
 pub mod Quiet
 pub mod Drives
 pub mod Instances
+pub mod Holding
+pub mod Kept
+pub mod KeptSteps
+pub mod KeptBody

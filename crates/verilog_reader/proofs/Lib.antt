@@ -8,3 +8,5 @@ pub mod Whole
 pub mod Public
 pub mod Fillers
 pub mod Driving
+pub mod KeptPrimitives
+pub mod Lawful
