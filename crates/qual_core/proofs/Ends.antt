@@ -80,6 +80,11 @@ no_cells : (k : ℕ) (said : SaidCell) → slice_get (cells_compared []) k ≡ S
 unfolding lines_of cells_said
 no_cells k said h = cc
 
+pub nothing_truly : (words : List (List ℕ)) (file : List ℕ → Option (List ℕ)) (old : List ℕ) → WritesTruly words file old old
+nothing_truly words file old accepted k said h =
+    let none : drop (length old) old ≡ [] = written old [] old (sym (append-nil old)) in
+    absurd (no_cells k said (sym (ap (λ t. slice_get (cells_compared t) k) none) ∙ h))
+
 some_command : (command : Option Command) (words : List (List ℕ)) (file : List ℕ → Option (List ℕ)) (reply : Reply) → IsReplyTo command words file reply → reply.status ≡ FileRefused → IsSome command
 some_command None words file reply o e = absurd (let f : Usage ≡ FileRefused = sym (ap (λ (r : Reply). r.status) o) ∙ e in cc)
 some_command (Some c) words file reply o e = search rules

@@ -1,4 +1,5 @@
-use Rattle.std.proofs.Common.{sym, subst}
+use Rattle.std.proofs.Common.{◌≡◌, ℕ, List, Option, Bool, IsSome, sym, ◌∙◌, subst, rules}
+use Rattle.desk_ports.specs.Faults.{NoneFails}
 use Rattle.qual_core.specs.Outcome.{IsCompared}
 use Rattle.qual_core.specs.Top.{IsLibraryOf, IsSourceOf, IsCompareAnswer, IsDoneOrFaulty}
 use Rattle.compare_text.specs.Blocks.{SaysEqualTruly}
@@ -8,7 +9,7 @@ use Rattle.text_scan.specs.Limits.{standard}
 use Rattle.liberty_source.specs.Library.{IsLibrary}
 use Rattle.verilog_source.specs.Source.{IsSource}
 use Rattle.qual_core.proofs.Kept.{library_kept, source_kept}
-use Rattle.qual_core.proofs.Replying.{first_refused, second_refused, both_compared, three_ok}
+use Rattle.qual_core.proofs.Replying.{first_refused, second_refused, both_compared, liberty_there, verilog_there, three_ok}
 use Rattle.qual_core.proofs.top.compare_files.Goals as goal
 
 pub returns-in-Err-clause-reply : goal.returns-in-Err-clause-reply
@@ -43,3 +44,25 @@ returns-clause-reply g c told =
     let s = subst (λ f. IsSourceOf (f verilog) c.in_ok-source.field-0) c.in_ok-library.ensures.files (c.in_ok-source.ensures.read told) in
     let t = subst (λ r. IsSourceOf (file verilog) r) c.in-Err-2.is s in
     subst (λ r. IsCompareAnswer liberty verilog file r) (sym c.refused-in-Err-2.ensures) (second_refused liberty verilog file c.in-Ok.library c.in-Err-2.line l t)
+
+pub returns-in_err-source-clause-succeeds : goal.returns-in_err-source-clause-succeeds
+returns-in_err-source-clause-succeeds g c told none reply outcome =
+    let liberty = c.args.liberty.now in
+    let verilog = c.args.verilog.now in
+    let file : List ℕ → Option (List ℕ) = g.S.Shelf.file c.args.shelf.now in
+    let l = subst (λ r. IsLibraryOf (file liberty) r) c.in-Ok.is (c.in_ok-library.ensures.read told) in
+    let there : IsSome (file verilog) = verilog_there c.in-Ok.library liberty verilog file reply l outcome in
+    let told_none = subst (λ (f : ℕ → Bool). NoneFails f) (sym c.in_ok-library.ensures.fails) none in
+    let told_there = subst (λ (f : List ℕ → Option (List ℕ)). IsSome (f verilog)) (sym c.in_ok-library.ensures.files) there in
+    let no_fault = c.in_err-source.ensures.succeeds told told_none told_there in
+    ?
+
+pub returns-in_err-source-clause-none_missing : goal.returns-in_err-source-clause-none_missing
+returns-in_err-source-clause-none_missing g c told reply outcome =
+    let liberty = c.args.liberty.now in
+    let verilog = c.args.verilog.now in
+    let file : List ℕ → Option (List ℕ) = g.S.Shelf.file c.args.shelf.now in
+    let l = subst (λ r. IsLibraryOf (file liberty) r) c.in-Ok.is (c.in_ok-library.ensures.read told) in
+    let there : IsSome (file verilog) = verilog_there c.in-Ok.library liberty verilog file reply l outcome in
+    let told_there = subst (λ (f : List ℕ → Option (List ℕ)). IsSome (f verilog)) (sym c.in_ok-library.ensures.files) there in
+    (c.in_err-source.ensures.asked told).missing (told_there, tt) ∙ (c.in_ok-library.ensures.asked told).missing (liberty_there liberty verilog file reply outcome, tt)

@@ -1,7 +1,7 @@
 use Rattle.std.proofs.Common.{refl, inr, rules}
 use Rattle.qual_core.specs.Command.{texts, command_of}
 use Rattle.qual_core.specs.Outcome.{IsOutcome}
-use Rattle.qual_core.proofs.Ends.{reply_answers, no_read_fault, no_write_fault, kept_blames, usage_exactly, usage_text, writes_whole, writes_truly, answers_exactly}
+use Rattle.qual_core.proofs.Ends.{reply_answers, no_read_fault, no_write_fault, kept_blames, usage_exactly, usage_text, writes_whole, writes_truly, part_writes_truly, nothing_truly, answers_exactly}
 use Rattle.qual_core.proofs.Judging.{judges_exactly, done_is_equal}
 use Rattle.qual_core.proofs.top.qual.Goals as goal
 
@@ -9,6 +9,17 @@ pub returns-in-Ok-put-clause-equal : goal.returns-in-Ok-put-clause-equal
 returns-in-Ok-put-clause-equal g c told sink =
     writes_truly (texts c.args.words.now) (g.S.Shelf.file c.args.shelf.now) (g.K.Sink.written c.args.out.now) _ c.in-Ok.reply (c.in-Ok.ensures.reply told)
     (rw (← c.as_bytes.ensures) (c.in-Ok-put.ensures.ok sink))
+
+pub returns-in-Err-ReadFault-clause-equal : goal.returns-in-Err-ReadFault-clause-equal
+returns-in-Err-ReadFault-clause-equal g c told sink = nothing_truly (texts c.args.words.now) (g.S.Shelf.file c.args.shelf.now) (g.K.Sink.written c.args.out.now)
+
+pub returns-in-Err-NoMemory-clause-equal : goal.returns-in-Err-NoMemory-clause-equal
+returns-in-Err-NoMemory-clause-equal g c told sink = nothing_truly (texts c.args.words.now) (g.S.Shelf.file c.args.shelf.now) (g.K.Sink.written c.args.out.now)
+
+pub returns-clause-equal : goal.returns-clause-equal
+returns-clause-equal g c told sink =
+    part_writes_truly (texts c.args.words.now) (g.S.Shelf.file c.args.shelf.now) (g.K.Sink.written c.args.out.now) (g.K.Sink.written c.put.new.self) c.in-Ok.reply.text
+    (c.in-Ok.ensures.reply told).truly (rw (← c.as_bytes.ensures) (c.in-Err.ensures.err sink))
 
 pub returns-in-Ok-put-clause-done_is_equal : goal.returns-in-Ok-put-clause-done_is_equal
 returns-in-Ok-put-clause-done_is_equal g c told compares done =
