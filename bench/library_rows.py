@@ -91,9 +91,6 @@ class Group:
 READ = (b"pin", b"pg_pin", b"ff", b"latch", b"statetable", b"ff_bank", b"latch_bank", b"bus", b"bundle")
 
 
-READ = (b"pin", b"pg_pin", b"ff", b"latch", b"statetable", b"ff_bank", b"latch_bank", b"bus", b"bundle")
-
-
 class Reader:
     def __init__(self, text):
         self.text, self.tokens, self.at, self.open = text, tokens_of(text), 0, 0
