@@ -4,3 +4,4 @@ pub mod LastTold
 pub mod Simple
 pub mod Begins
 pub mod Follows
+pub mod Lawful

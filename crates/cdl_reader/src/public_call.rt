@@ -1,10 +1,11 @@
 //! The public call.
-ghost use Rattle.std.specs.Prelude.{◌≡◌};
+ghost use Rattle.std.specs.Prelude.{◌≡◌, IfOk};
 ghost use Rattle.grammar.specs.Answers.{IsAnswer, read_all};
 ghost use Rattle.cdl_cards.specs.Cards.{cards_of};
 ghost use Rattle.cdl_reader.specs.Grammar.{netlist, nothing};
 ghost use Rattle.cdl_reader.specs.Told.{Answer, IsAnswered, told};
 ghost use Rattle.file_rules.specs.Told.{Agrees};
+ghost use Rattle.circuit.specs.Netlist.{IsNetlist};
 
 use crate::ends::at_word;
 use crate::reader::Reader;
@@ -39,6 +40,8 @@ pub fn read_netlist(alloc: Global, text: &[u8], limits: &Limits) -> Result<Netli
     ensures answered { IsAnswered text.now limits.now result }
     // No other answer is there: whatever the grammar gives the text is told.
     ensures only { (o : Answer) → IsAnswer (netlist limits.now) nothing (cards_of text.now) o → Agrees result (told text.now o) }
+    // What is kept has names, and nothing twice.
+    ensures kept { IfOk result (λ netlist. IsNetlist limits.now netlist) }
 {
     read_cards(alloc, text, limits)
 }

@@ -21,6 +21,14 @@ fn an_inverter_is_read(rt: HostRuntime) -> Result<(), Fail> {
 }
 
 #[test]
+fn a_technology_is_read(rt: HostRuntime) -> Result<(), Fail> {
+    let tech = read_tech(rt.alloc(), b"supply,V,power,-\n", &Limits::standard())?;
+    assert_eq!(rt; tech.supplies.len(), 1);
+    assert!(rt; tech.supplies.as_slice()[0].name.as_bytes() == b"V".as_slice());
+    Ok(())
+}
+
+#[test]
 fn a_subcircuit_has_an_end(rt: HostRuntime) -> Result<(), Fail> {
     let is_at_end = match read_netlist(rt.alloc(), b".SUBCKT A\nR1\n", &Limits::standard()) {
         Err(FileRefusal::Syntax { line, column }) => (line, column) == (3, 1),

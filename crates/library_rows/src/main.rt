@@ -8,12 +8,21 @@ use liberty_reader::{
     Both, CellPart, LibertyCell, LibertyPin, Library, RowsText, StateGroup, read_library,
 };
 use std::alloc::{Alloc, Global};
+use std::fmt::Write;
 use std::io::Print;
 use std::{env, fs};
 use text_scan::{FileRefusal, Limits, Text};
 
+/// The text; a byte outside 32 to 126 is shown by its number.
 fn shown(alloc: Global, text: &Text) -> Result<String> {
-    Ok(String::from_utf8(text.as_bytes().to_vec(alloc)?)?)
+    let mut shown = String::new(alloc);
+    for byte in text.as_bytes() {
+        match *byte {
+            32..=126 => shown.push(char::from(*byte))?,
+            other => write!(shown, "<{other}>")?,
+        }
+    }
+    Ok(shown)
 }
 
 fn show_texts<R: Print + Alloc<A = Global>>(rt: &R, texts: &[&Option<Text>]) -> Result<()> {
@@ -177,12 +186,12 @@ fn show_beginnings<R: Print + Alloc<A = Global>>(rt: &R, text: &[u8]) -> Result<
     Ok(())
 }
 
-fn show_file<R: Print + Alloc<A = Global>>(rt: &R, texts: &str) -> Result<()> {
+fn show_file<R: Print + Alloc<A = Global>>(rt: &R, texts: &[u8]) -> Result<()> {
     let mut first = true;
-    for text in texts.split('%') {
-        show(rt, text.as_bytes())?;
+    for text in texts.split(|byte| *byte == b'%') {
+        show(rt, text)?;
         if first {
-            show_beginnings(rt, text.as_bytes())?;
+            show_beginnings(rt, text)?;
         }
         first = false;
     }
@@ -191,8 +200,7 @@ fn show_file<R: Print + Alloc<A = Global>>(rt: &R, texts: &str) -> Result<()> {
 
 fn main(rt: HostRuntime) -> Result<()> {
     for path in env::args(&rt)?.skip(1) {
-        let bytes = fs::read(&rt, path.as_str())?;
-        show_file(&rt, &String::from_utf8(bytes)?)?;
+        show_file(&rt, &fs::read(&rt, path.as_str())?)?;
     }
     Ok(())
 }
