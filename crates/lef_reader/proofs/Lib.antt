@@ -1,1 +1,5 @@
 pub mod OverTokens
+pub mod Skipped
+pub mod PinReads
+pub mod Simple
+pub mod Repeats

@@ -1,6 +1,5 @@
 -- What a LEF file is: statements and sections that are passed over, macros, and an end.
 use Rattle.std.specs.Prelude.{◌≡◌, ℕ, zero, suc, true, false, ◌++◌, if◌then◌else◌, List, [], ◌∷◌, codes, Result, Ok, Err}
-use Rattle.std.specs.Str.{bytes_eq}
 use Rattle.text_scan.specs.declared.limits.Limits.{Limits}
 use Rattle.text_scan.specs.declared.limits.LimitKind.TheVariants as limit_kinds
 use Rattle.text_scan.specs.declared.refusal.FileRefusal.{FileRefusal}
@@ -21,7 +20,7 @@ use Rattle.lef_reader.specs.declared.until.Opened.{Opened}
 use Rattle.lef_reader.specs.declared.until.Opened.TheVariants as openings
 use Rattle.lef_reader.specs.First.{First, IsFirst}
 use Rattle.lef_reader.specs.Looks.{text, is_passed, word_of}
-use Rattle.lef_reader.specs.Passing.{behind}
+use Rattle.lef_reader.specs.Passing.{behind, is_name_of}
 use Rattle.lef_reader.specs.MacroActions.{no_macro, macro_of}
 use Rattle.lef_reader.specs.MacroGrammar.{macro_body}
 use Rattle.lef_reader.specs.OutsideGrammar.{outside}
@@ -68,7 +67,7 @@ refused source name word line f = with_macro (text source name) (parts.Refused (
 
 -- the word behind an END that isn't its own: the macro's end in a pin is shown as end
 abbrev pub ending_word : List ℕ → Token → Token → List ℕ
-ending_word source name t = if bytes_eq (text source t) (text source name) then codes "end" else word_of source t
+ending_word source name t = if is_name_of source name t then codes "end" else word_of source t
 
 -- what comes of a macro: more of the file, from these tokens on or behind the END and name of the refused macro, or
 -- the refusal of the file

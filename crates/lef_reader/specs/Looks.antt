@@ -190,6 +190,13 @@ abbrev pub is_over : Look → Bool
 is_over looks.Over = true
 is_over _ = false
 
+-- begins what stands in a macro or a pin, and doesn't end it
+abbrev pub is_statement : Look → Bool
+is_statement looks.End = false
+is_statement looks.Barred = false
+is_statement looks.Over = false
+is_statement _ = true
+
 -- begins another statement outside macros, in a macro, in a pin
 abbrev pub is_plain : Look → Bool
 is_plain looks.Macro = false

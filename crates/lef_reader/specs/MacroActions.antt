@@ -1,6 +1,5 @@
 -- What the tokens of a macro leave, or why they refuse.
 use Rattle.std.specs.Prelude.{ℕ, if◌then◌else◌, List, [], ◌∷◌, ◌++◌, Option, Some, None, Result, Ok, Err}
-use Rattle.std.specs.Str.{bytes_eq}
 use Rattle.text_scan.specs.declared.pins.Direction.{Direction}
 use Rattle.text_scan.specs.declared.pins.Direction.TheVariants as directions
 use Rattle.text_scan.specs.declared.pins.PinKind.{PinKind}
@@ -17,7 +16,7 @@ use Rattle.lef_reader.specs.declared.look.Look.{Look}
 use Rattle.lef_reader.specs.declared.look.Look.TheVariants as looks
 use Rattle.lef_reader.specs.declared.macro_text.MacroText.{MacroText}
 use Rattle.lef_reader.specs.Looks.{text, look_of}
-use Rattle.lef_reader.specs.Passing.{extended, kept_text, kept_size}
+use Rattle.lef_reader.specs.Passing.{extended, kept_text, kept_size, is_name_of}
 
 abbrev pub Outcome : Type 0
 Outcome = Result MacroText Refusal
@@ -87,11 +86,11 @@ with_pin m = record m { pins = m.pins ++ m.pin ∷ []; pin = no_pin [] }
 
 -- END and the pin's name; another word refuses the macro
 unfoldable pub end_pin : List ℕ → Token → Token → MacroText → Outcome
-end_pin source name t m = if bytes_eq (text source t) (text source name) then Ok (with_pin m) else Err refusals.OtherEnd
+end_pin source name t m = if is_name_of source name t then Ok (with_pin m) else Err refusals.OtherEnd
 
 -- END and the macro's name
 unfoldable pub end_macro : List ℕ → Token → Token → MacroText → Outcome
-end_macro source name t m = if bytes_eq (text source t) (text source name) then Ok m else Err refusals.OtherEnd
+end_macro source name t m = if is_name_of source name t then Ok m else Err refusals.OtherEnd
 
 -- the macro of this name
 abbrev pub macro_of : List ℕ → List ℕ → MacroText → Macro

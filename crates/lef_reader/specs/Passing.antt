@@ -52,11 +52,20 @@ unfoldable pub past_statement : List ℕ → List Token → Result (List Token) 
 past_statement source [] = Err []
 past_statement source (t ∷ ts) = if stops source untils.Semicolon t then Ok ts else dropped (passed source untils.Semicolon None ts)
 
+-- the tokens behind a semicolon
+unfoldable pub past_semicolon : List ℕ → List Token → Result (List Token) (List Token)
+past_semicolon source [] = Err []
+past_semicolon source (t ∷ ts) = if stops source untils.Semicolon t then Ok ts else Err (t ∷ ts)
+
 -- ---- to END and a word
+
+-- the word behind END is this name
+abbrev pub is_name_of : List ℕ → Token → Token → Bool
+is_name_of source name t = bytes_eq (text source t) (text source name)
 
 -- the word behind END is the one that closes: a name as it stands, or a keyword
 abbrev pub closes : List ℕ → Closing → Token → Bool
-closes source (closings.Name n) t = bytes_eq (text source t) (text source n)
+closes source (closings.Name n) t = is_name_of source n t
 closes source (closings.Keyword n) t = is_same_word (text source t) (text source n)
 
 -- The tokens behind the first END and the word that closes; where there are none, those from the first that can't be

@@ -1,5 +1,5 @@
 -- What the parts of a reader answer.
-use Rattle.std.specs.Prelude.{◌≡◌, if◌then◌else◌, List, [], ◌∷◌, Option, Result, Ok, Err}
+use Rattle.std.specs.Prelude.{◌≡◌, ℕ, true, false, if◌then◌else◌, List, [], ◌∷◌, Option, Result, Ok, Err}
 use Rattle.text_scan.specs.declared.token.Token.{Token}
 use Rattle.text_scan.specs.Left.{is_end, left}
 use Rattle.grammar.specs.Reading.{Stop, syntax, refusal}
@@ -7,7 +7,10 @@ use Rattle.lef_reader.specs.declared.extent.Extent.{Extent}
 use Rattle.lef_reader.specs.declared.halt.Halt.{Halt}
 use Rattle.lef_reader.specs.declared.halt.Halt.TheVariants as halts
 use Rattle.lef_reader.specs.declared.halt.Refusal.{Refusal}
+use Rattle.lef_reader.specs.declared.halt.Refusal.TheVariants as refusals
 use Rattle.lef_reader.specs.declared.tokens.Tokens.{Tokens}
+use Rattle.lef_reader.specs.Looks.{is_passed}
+use Rattle.lef_reader.specs.Passing.{is_name_of}
 
 -- the tokens behind the one ahead; behind the end there are none
 unfoldable pub more : Tokens → List Token
@@ -25,6 +28,14 @@ Passes (Err h) o new = (h ≡ halts.Syntax) × (o ≡ Err new)
 abbrev pub IsBehind : {U : Type 0} → Result U Halt → Result (List Token) (List Token) → List Token → Type 0
 IsBehind (Ok u) o new = o ≡ Ok new
 IsBehind (Err h) o new = (h ≡ halts.Syntax) × (o ≡ Err new)
+
+-- the word behind END was this name, or another one, or may not stand there
+abbrev pub EndsName : {U : Type 0} → List ℕ → Token → Result U Halt → List Token → List Token → Type 0
+EndsName source name r [] new = ⊥
+EndsName source name (Ok u) (t ∷ ts) new = (is_passed t ≡ true) × (is_name_of source name t ≡ true) × (ts ≡ new)
+EndsName source name (Err halts.NoMemory) (t ∷ ts) new = ⊥
+EndsName source name (Err halts.Syntax) (t ∷ ts) new = (is_passed t ≡ false) × (t ∷ ts ≡ new)
+EndsName source name (Err (halts.Refused e)) (t ∷ ts) new = (is_passed t ≡ true) × (is_name_of source name t ≡ false) × (t ∷ ts ≡ new) × (e ≡ refusals.OtherEnd)
 
 -- the action leads to the new value, or refuses
 abbrev pub Does : {U S : Type 0} → Result U Halt → S → Result S Refusal → Type 0

@@ -12,5 +12,6 @@ mod look;
 mod macro_text;
 mod names;
 mod passing;
+mod pins;
 mod tokens;
 mod until;

@@ -5,10 +5,10 @@ ghost use Rattle.text_scan.specs.Tokens.{tokens_of};
 ghost use Rattle.text_scan.specs.declared.token.Style.TheVariants as styles;
 ghost use Rattle.lef_reader.specs.Looks as looks;
 ghost use Rattle.lef_reader.specs.Passing as spec;
-ghost use Rattle.lef_reader.specs.Steps.{rest, Passes, IsBehind};
+ghost use Rattle.lef_reader.specs.Steps.{rest, Passes, IsBehind, EndsName};
 
 use crate::extent::Extent;
-use crate::halt::Halt;
+use crate::halt::{Halt, Refusal};
 use crate::look::{Look, is_same_word, look_of};
 use crate::names::{is_passed, is_word, text};
 use crate::tokens::Tokens;
@@ -64,13 +64,27 @@ pub fn kept_text(
     }
 }
 
+/// Whether the token is this name.
+pub fn is_name_of(source: &[u8], name: Token, token: Token) -> bool
+    ensures { result ≡ spec.is_name_of source.now name token }
+{
+    text(source, token) == text(source, name)
+}
+
 fn closes(source: &[u8], closing: Closing, token: Token) -> bool
     ensures { result ≡ spec.closes source.now closing token }
 {
     match closing {
-        Closing::Name(name) => text(source, token) == text(source, name),
+        Closing::Name(name) => is_name_of(source, name, token),
         Closing::Keyword(word) => is_same_word(text(source, token), text(source, word)),
     }
+}
+
+/// Whether a statement of a macro or a pin begins so.
+pub fn is_statement(look: Look) -> bool
+    ensures { result ≡ looks.is_statement look }
+{
+    !matches!(look, Look::End | Look::Barred | Look::Over)
 }
 
 /// Whether this is `END`.
@@ -146,6 +160,33 @@ impl<'a> Tokens<'a> {
             return Ok(());
         }
         self.pass(source, Until::Semicolon)
+    }
+
+    /// Passes over a semicolon.
+    #[tactic(auto, unfolding(crate::specs::Passing::past_semicolon), using(crate::proofs::OverTokens::stops_goes))]
+    pub fn semicolon(&mut self, source: &[u8]) -> Result<(), Halt>
+        ensures { IsBehind result (spec.past_semicolon source.now (rest self.old)) (rest self.new) }
+    {
+        if !stops(source, Until::Semicolon, self.ahead) {
+            return Err(Halt::Syntax);
+        }
+        self.shift();
+        Ok(())
+    }
+
+    /// Passes over the name behind an `END`; a word that isn't the name is refused.
+    #[tactic(auto, using(crate::proofs::OverTokens::passed_goes))]
+    pub fn end_name(&mut self, source: &[u8], name: Token) -> Result<(), Halt>
+        ensures { EndsName source.now name result (rest self.old) (rest self.new) }
+    {
+        if !is_passed(self.ahead) {
+            return Err(Halt::Syntax);
+        }
+        if !is_name_of(source, name, self.ahead) {
+            return Err(Halt::Refused(Refusal::OtherEnd));
+        }
+        self.shift();
+        Ok(())
     }
 
     /// Passes over words and strings up to the first `END` and the word that closes; whether `END` stands right before
