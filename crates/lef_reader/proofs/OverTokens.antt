@@ -39,7 +39,7 @@ passed_goes kinds.Unfinished h = absurd cc
 passed_goes kinds.LineEnd h = absurd cc
 passed_goes kinds.End h = absurd cc
 
-word_goes : (k : Kind) (b : Bool) → (is_word_kind k && b) ≡ true → is_end k ≡ false
+pub word_goes : (k : Kind) (b : Bool) → (is_word_kind k && b) ≡ true → is_end k ≡ false
 word_goes kinds.Word b h = refl
 word_goes kinds.Str b h = absurd cc
 word_goes kinds.Sign b h = absurd cc

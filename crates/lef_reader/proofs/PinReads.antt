@@ -15,11 +15,15 @@ use Rattle.lef_reader.specs.declared.look.Look.{Look}
 use Rattle.lef_reader.specs.declared.look.Look.TheVariants as looks
 use Rattle.lef_reader.specs.declared.macro_text.MacroText.{MacroText}
 use Rattle.lef_reader.specs.declared.until.Until.TheVariants as untils
-use Rattle.lef_reader.specs.Looks.{look_of, is_statement, is_direction_word, is_use_word, is_output, is_tristate, is_pin_plain, is_over, is_passed}
+use Rattle.text_scan.specs.declared.limits.Limits.{Limits}
+use Rattle.text_scan.specs.Left.{is_end as is_the_end}
+use Rattle.file_rules.specs.Names.{is_name, is_too_long}
+use Rattle.lef_reader.proofs.OverTokens.{word_goes}
+use Rattle.lef_reader.specs.Looks.{text, look_of, is_end, can_name, is_statement, is_direction_word, is_use_word, is_output, is_tristate, is_pin_plain, is_over, is_passed}
 use Rattle.lef_reader.specs.Passing.{extended, passed, is_name_of}
-use Rattle.lef_reader.specs.MacroActions.{direction_of, set_direction, kind_of, set_kind, with_port, with_pin, end_pin}
-use Rattle.lef_reader.specs.MacroGrammar.{MacroRule, semicolon, rest_from, direction_end, direction, use_statement, port_rest, port, pin_statement, pin_item, pin_end}
-use Rattle.lef_reader.specs.Steps.{Passes, EndsName, Halts, Gives}
+use Rattle.lef_reader.specs.MacroActions.{direction_of, set_direction, kind_of, set_kind, with_port, with_pin, end_pin, name_pin}
+use Rattle.lef_reader.specs.MacroGrammar.{MacroRule, semicolon, rest_from, direction_end, direction, use_statement, port_rest, port, pin_statement, pin_item, pin_end, pin_body, pin}
+use Rattle.lef_reader.specs.Steps.{Passes, EndsName, Does, Halts, Gives}
 use Rattle.lef_reader.proofs.Skipped.{Read, kept_read, keeping}
 
 pub statement_goes : (l : Look) → is_statement l ≡ true → is_over l ≡ false
@@ -144,3 +148,33 @@ pub passes_halts : (e : Halt) (put : Option Extent → MacroText) (done : MacroT
 passes_halts halts.NoMemory put done o us h = tt
 passes_halts halts.Syntax put done o us h = ap (keeping put done) h.1
 passes_halts (halts.Refused r) put done o us h = absurd (let bad = h.0 in cc)
+
+-- ---- a whole pin
+
+pub is_end_look : (l : Look) → is_end l ≡ true → l ≡ looks.End
+is_end_look looks.End h = refl
+is_end_look _ h = absurd cc
+
+module _ (source : List ℕ) where
+  pub no_pin_end : (name : Token) (m : MacroText) (l : Look) (t : Token) (ts : List Token) → l ≡ look_of source t → is_end l ≡ false → read (pin_end source name) m (t ∷ ts) ≡ Err (syntax (t ∷ ts))
+  unfolding pin_end
+  no_pin_end name m l t ts e h = let other : is_end (look_of source t) ≡ false = subst (λ z. is_end z ≡ false) e h in rw other refl
+
+  module _ (limits : Limits) where
+    pub can_name_goes : (t : Token) → can_name source limits t ≡ true → is_the_end t.kind ≡ false
+    unfolding can_name
+    can_name_goes t h = word_goes t.kind (is_too_long limits (text source t) || is_name (text source t)) h
+
+    pub pin_bad : (m : MacroText) (t u : Token) (us : List Token) → look_of source t ≡ looks.Pin → can_name source limits u ≡ false → read (pin source limits) m (t ∷ u ∷ us) ≡ Err (syntax (u ∷ us))
+    unfolding pin
+    pin_bad m t u us h k = rw (h, k) refl
+
+    pub pin_ok : (m n : MacroText) (t u : Token) (us : List Token) → look_of source t ≡ looks.Pin → can_name source limits u ≡ true → name_pin source limits u m ≡ Ok n → read (pin source limits) m (t ∷ u ∷ us) ≡ read (pin_body source u) n us
+    unfolding pin
+    pin_ok m n t u us h k g = rw (h, k, g) refl
+
+    pub pin_refused : (e : Halt) (m n : MacroText) (t u : Token) (us : List Token) → look_of source t ≡ looks.Pin → can_name source limits u ≡ true → Does {U = Unit {0}} (Err e) n (name_pin source limits u m) → Halts e (read (pin source limits) m (t ∷ u ∷ us)) (u ∷ us)
+    unfolding pin
+    pin_refused halts.NoMemory m n t u us h k g = tt
+    pin_refused halts.Syntax m n t u us h k g = absurd g
+    pin_refused (halts.Refused r) m n t u us h k g = rw (h, k, g) refl

@@ -45,3 +45,6 @@ short_item source = refl
 pub short_macro_item : (source : List ℕ) (limits : Limits) → short (item source limits) ≡ false
 unfolding item pin shapes size macro_statement
 short_macro_item source limits = refl
+
+pub then_same : {S : Type 0} (a b : Rule Token S Refusal) (s m : S) (ts us : List Token) → read a s ts ≡ Ok (m, us) → read (seq a b) s ts ≡ read b m us
+then_same a b s m ts us e = ap (λ z. z >>= λ x. read b x.0 x.1) e

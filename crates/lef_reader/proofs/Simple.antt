@@ -20,7 +20,7 @@ use Rattle.lef_reader.specs.declared.until.Until.TheVariants as untils
 use Rattle.lef_reader.specs.Looks.{text, look_of, kind_look, word_look, longer_look, long_look, lowered, is_same_word, is_word_kind, is_passed, not, is_statement, is_end, is_pin, is_shapes, is_size, is_direction, is_use, is_port, is_tristate, is_output, is_pin_plain, is_macro_plain, is_plain, is_extension, is_block, is_section, is_macro, is_over, is_library, can_name}
 use Rattle.lef_reader.specs.Passing.{until_word, stops}
 use Rattle.lef_reader.specs.MacroGrammar.{MacroRule, goes_over, rest_to, rest_from, semicolon, direction_end, direction, use_statement, port_rest, port, pin_statement, pin_item, pin_end, pin_body, shapes, size_rest, size, macro_statement, macro_end, pin, item, macro_body}
-use Rattle.lef_reader.specs.OutsideGrammar.{OutsideRule, statement, extension, block, ending_rest, ending, section_rest, section, title, begun, outside}
+use Rattle.lef_reader.specs.OutsideGrammar.{OutsideRule, statement, extension, block, ending_rest, ending, section_rest, section, macro_name, title, begun, outside}
 
 -- ---- a semicolon is no keyword
 
@@ -202,7 +202,7 @@ module _ (source : List ℕ) where
     section_simple next = (refl, (λ t e. let off = not_both (is_passed t) (can_name source limits t) e in rw off refl), (λ t e. tt), (λ t e. from_simple Opened t next))
 
     pub begun_simple : (f : LefText) (next : Token → Bool) → IsSimple (begun source limits f) next
-    unfolding begun statement extension block ending section title IsSimple
+    unfolding begun statement extension block ending section title macro_name IsSimple
     begun_simple f next = (
       refl,
       by is_plain _ first,

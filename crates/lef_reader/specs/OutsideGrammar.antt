@@ -75,8 +75,11 @@ module _ (source : List ℕ) where
     unfoldable pub section : OutsideRule
     section = one (at source is_section) open_nothing (λ t. section_rest)
 
+    unfoldable pub macro_name : LefText → OutsideRule
+    macro_name f = one (can_name source limits) (open_macro source limits f) (λ t. none)
+
     unfoldable pub title : LefText → OutsideRule
-    title f = one (at source is_macro) (count_macro limits f) (λ t. one (can_name source limits) (open_macro source limits f) (λ u. none))
+    title f = one (at source is_macro) (count_macro limits f) (λ t. macro_name f)
 
     -- something outside macros, or a macro's title
     unfoldable pub begun : LefText → OutsideRule
