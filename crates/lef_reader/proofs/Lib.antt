@@ -3,3 +3,5 @@ pub mod Skipped
 pub mod PinReads
 pub mod Simple
 pub mod Repeats
+pub mod MacroReads
+pub mod OutsideReads
