@@ -82,7 +82,7 @@ module _ (source : List ℕ) where
 
   pub ending_other : (t u : Token) (us : List Token) → look_of source t ≡ looks.End → is_library (look_of source u) ≡ false → is_passed u ≡ true → read (ending source) openings.End (t ∷ u ∷ us) ≡ behind_read openings.Nothing (past_statement source (u ∷ us))
   unfolding ending ending_rest
-  ending_other t u us h k p = rw (h, k, p, k) (statement_read source openings.Nothing u us)
+  ending_other t u us h k p = rw (h, k, p) (statement_read source openings.Nothing u us)
 
   module _ (limits : Limits) where
     -- ---- sections
@@ -97,7 +97,7 @@ module _ (source : List ℕ) where
 
     pub section_other : (t u : Token) (us : List Token) → look_of source t ≡ looks.Section → can_name source limits u ≡ false → is_passed u ≡ true → read (section source limits) openings.End (t ∷ u ∷ us) ≡ behind_read openings.Nothing (past_statement source (u ∷ us))
     unfolding section section_rest
-    section_other t u us h k p = rw (h, k, p, k) (statement_read source openings.Nothing u us)
+    section_other t u us h k p = rw (h, k, p) (statement_read source openings.Nothing u us)
 
     pub section_long : (t : Token) (ts : List Token) → can_name source limits t ≡ true → is_too_long limits (text source t) ≡ true → read (section_rest source limits) openings.Nothing (t ∷ ts) ≡ Err (refusal refusals.LongName (t ∷ ts))
     unfolding section_rest open_section

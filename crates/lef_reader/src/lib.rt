@@ -6,6 +6,7 @@
 #![tactic(auto)]
 
 mod extent;
+mod file;
 mod halt;
 mod lef_text;
 mod look;
@@ -15,5 +16,13 @@ mod names;
 mod outside;
 mod passing;
 mod pins;
+mod public_call;
+mod refused;
 mod tokens;
 mod until;
+
+pub use lef_source::{Lef, Macro, MacroPart, MacroPin};
+pub use public_call::read_lef;
+
+#[cfg(test)]
+mod tests;
