@@ -5,3 +5,7 @@ pub mod Simple
 pub mod Repeats
 pub mod MacroReads
 pub mod OutsideReads
+pub mod FirstAnswers
+pub mod OneAnswer
+pub mod Public
+pub mod TurnsLead

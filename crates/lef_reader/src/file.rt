@@ -18,13 +18,7 @@ use file_rules::at_token;
 use std::alloc::Global;
 use text_scan::{FileRefusal, Limits, Token};
 
-fn told_halt(
-    alloc: Global,
-    source: &[u8],
-    limits: &Limits,
-    halt: Halt,
-    token: Token,
-) -> FileRefusal
+fn told_halt(alloc: Global, source: &[u8], limits: &Limits, halt: Halt, token: Token) -> FileRefusal
     ensures { Told source.now limits.now halt token result }
 {
     match halt {

@@ -33,8 +33,7 @@ pub fn is_word(token: Token) -> bool
 pub fn can_name(source: &[u8], limits: &Limits, token: Token) -> bool
     ensures { result ≡ spec.can_name source.now limits.now token }
 {
-    is_word(token)
-        && (is_too_long(limits, text(source, token)) || is_name(text(source, token)))
+    is_word(token) && (is_too_long(limits, text(source, token)) || is_name(text(source, token)))
 }
 
 #[tactic(auto, unfolding(crate::specs::Looks::inside))]

@@ -51,11 +51,7 @@ fn extended(extent: Option<Extent>, token: Token) -> Option<Extent>
 }
 
 /// The bytes of an extent, none where there is none.
-pub fn kept_text(
-    alloc: Global,
-    source: &[u8],
-    extent: Option<Extent>,
-) -> Result<Text, NoMemory>
+pub fn kept_text(alloc: Global, source: &[u8], extent: Option<Extent>) -> Result<Text, NoMemory>
     ensures { IfOk result (λ t. t ≡ spec.kept_text source.now extent) }
 {
     match extent {
@@ -192,12 +188,7 @@ impl<'a> Tokens<'a> {
     /// Passes over words and strings up to the first `END` and the word that closes; whether `END` stands right before
     /// is told.
     #[tactic(auto, using(crate::proofs::OverTokens::behind_on, crate::proofs::OverTokens::behind_stop, crate::proofs::OverTokens::behind_end, crate::proofs::OverTokens::passed_goes))]
-    pub fn behind(
-        &mut self,
-        source: &[u8],
-        closing: Closing,
-        after_end: bool,
-    ) -> Result<(), Halt>
+    pub fn behind(&mut self, source: &[u8], closing: Closing, after_end: bool) -> Result<(), Halt>
         ensures { IsBehind result (spec.behind source.now closing after_end (rest self.old)) (rest self.new) }
     {
         let mut ended = after_end;

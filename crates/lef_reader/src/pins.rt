@@ -134,12 +134,7 @@ impl MacroText {
         Ok(())
     }
 
-    fn port(
-        &mut self,
-        alloc: Global,
-        source: &[u8],
-        tokens: &mut Tokens<'_>,
-    ) -> Result<(), Halt>
+    fn port(&mut self, alloc: Global, source: &[u8], tokens: &mut Tokens<'_>) -> Result<(), Halt>
         requires { looks.look_of source.now tokens.old.ahead ≡ look_of.Port }
         ensures { Gives result (read (grammar.port source.now) self.old (rest tokens.old)) self.new (rest tokens.new) }
     {

@@ -24,11 +24,7 @@ use name_index::Names;
 use std::alloc::Global;
 use text_scan::{FileRefusal, Items, LimitKind, Limits, NoMemory, Text, Token};
 
-fn kept_size(
-    alloc: Global,
-    source: &[u8],
-    extent: Option<Extent>,
-) -> Result<Option<Text>, NoMemory>
+fn kept_size(alloc: Global, source: &[u8], extent: Option<Extent>) -> Result<Option<Text>, NoMemory>
     ensures { IfOk result (λ size. size ≡ kept_size source.now extent) }
 {
     match extent {
@@ -37,12 +33,7 @@ fn kept_size(
     }
 }
 
-fn macro_of(
-    alloc: Global,
-    source: &[u8],
-    name: &[u8],
-    text: MacroText,
-) -> Result<Macro, NoMemory>
+fn macro_of(alloc: Global, source: &[u8], name: &[u8], text: MacroText) -> Result<Macro, NoMemory>
     ensures { IfOk result (λ m. m ≡ macro_of source.now name.now text) }
 {
     let MacroText {
@@ -60,12 +51,7 @@ fn macro_of(
 }
 
 // The word behind an `END` that isn't its own.
-fn ending_word(
-    alloc: Global,
-    source: &[u8],
-    name: Token,
-    token: Token,
-) -> Result<Text, NoMemory>
+fn ending_word(alloc: Global, source: &[u8], name: Token, token: Token) -> Result<Text, NoMemory>
     ensures { IfOk result (λ t. t ≡ spec.ending_word source.now name token) }
 {
     if is_name_of(source, name, token) {

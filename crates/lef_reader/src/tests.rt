@@ -5,7 +5,8 @@ use text_scan::{Direction, FileRefusal, Limits, PinKind};
 
 #[test]
 fn a_macro_is_read(rt: HostRuntime) -> Result<(), Fail> {
-    let text = b"MACRO INV\nSIZE 2 BY 4 ;\nPIN Y\nDIRECTION OUTPUT TRISTATE ;\nUSE power ;\nPORT LAYER M1 ; RECT 0 0 1 1 ; END\nEND Y\nEND INV\nEND LIBRARY";
+    let text =
+        b"MACRO INV\nSIZE 2 BY 4 ;\nPIN Y\nDIRECTION OUTPUT TRISTATE ;\nUSE power ;\nPORT LAYER M1 ; RECT 0 0 1 1 ; END\nEND Y\nEND INV\nEND LIBRARY";
     let lef = read_lef(rt.alloc(), text, &Limits::standard())?;
     assert_eq!(rt; lef.macros.len(), 1);
     let MacroPart::Whole(inverter) = &lef.macros.as_slice()[0] else {

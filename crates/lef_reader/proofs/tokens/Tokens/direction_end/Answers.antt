@@ -29,9 +29,9 @@ returns c = λ m.
     let none : (c.args.output && is_tristate (look_of source c.args.self.now.ahead)) ≡ false
     = elim c.else-output.branch [
       | else-output-via-then-output+else-is_tristate w ↦
-        let no : is_tristate (look_of source c.args.self.now.ahead) ≡ false = ap is_tristate (sym w.look.ensures) ∙ sym w.is_tristate.ensures ∙ w.if-is_tristate.false in
-        let yes : c.args.output ≡ true = w.if-output.true in
-        rw (yes, no) refl
+          let no : is_tristate (look_of source c.args.self.now.ahead) ≡ false = ap is_tristate (sym w.look.ensures) ∙ sym w.is_tristate.ensures ∙ w.if-is_tristate.false in
+          let yes : c.args.output ≡ true = w.if-output.true in
+          rw (yes, no) refl
       | else-output-via-else-output w ↦ let no : c.args.output ≡ false = w.if-output.false in rw no refl
     ]
     in
