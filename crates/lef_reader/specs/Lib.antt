@@ -1,0 +1,10 @@
+pub mod Looks
+pub mod Passing
+pub mod MacroActions
+pub mod MacroGrammar
+pub mod OutsideGrammar
+pub mod First
+pub mod File
+pub mod Promise
+pub mod Steps
+pub mod Turning
