@@ -1,0 +1,2 @@
+//! Correspondence tables.
+#![tactic(auto)]
