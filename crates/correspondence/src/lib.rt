@@ -1,2 +1,8 @@
-//! Correspondence tables.
+//! Correspondence tables: how the state of a sequential cell stands in each of its views, and which row of a table covers
+//! a state.
 #![tactic(auto)]
+
+mod covering;
+pub mod laws;
+
+pub use covering::cover;
