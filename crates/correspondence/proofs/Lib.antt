@@ -1,3 +1,6 @@
 pub mod Ordered
 pub mod First
 pub mod Terns
+pub mod Orders
+pub mod Found
+pub mod Listed

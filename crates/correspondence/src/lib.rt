@@ -3,6 +3,10 @@
 #![tactic(auto)]
 
 mod covering;
+mod entry;
+mod index;
+mod indexing;
 pub mod laws;
 
 pub use covering::cover;
+pub use index::RowIndex;
