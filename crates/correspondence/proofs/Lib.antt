@@ -4,3 +4,4 @@ pub mod Terns
 pub mod Orders
 pub mod Found
 pub mod Listed
+pub mod Turns

@@ -6,7 +6,13 @@ mod covering;
 mod entry;
 mod index;
 mod indexing;
+mod kinds;
 pub mod laws;
+mod lines;
+mod parts;
+mod reading;
+mod table;
+mod word;
 
 pub use covering::cover;
 pub use index::RowIndex;
