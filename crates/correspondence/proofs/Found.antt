@@ -98,8 +98,8 @@ module _ (rows : List Row) (entries : List Entry) (are : AreEntriesOf rows entri
     none_above i a at none not ne j row in_rows h =
         let e = entry_at j row in_rows in
         elim (cases_lt e.place i) [
-          inl lt ↦ none e.place e.entry lt e.at_place row e.has_row h
-        | inr le ↦ not_behind a e.entry (key pins liberty udps) not ne (far i e.place a e.entry at e.at_place le) (same_key e.place e.entry row e.at_place e.has_row h)
+          | inl lt ↦ none e.place e.entry lt e.at_place row e.has_row h
+          | inr le ↦ not_behind a e.entry (key pins liberty udps) not ne (far i e.place a e.entry at e.at_place le) (same_key e.place e.entry row e.at_place e.has_row h)
         ]
 
     pub first_here : (i : ℕ) (a : Entry) (row : Row) → slice_get entries i ≡ Some a → slice_get rows a.row ≡ Some row → NoneBefore i → Covers row pins liberty udps nodes
@@ -111,20 +111,20 @@ module _ (rows : List Row) (entries : List Entry) (are : AreEntriesOf rows entri
       none_before = λ j r lt rt k.
           let e = entry_at j r rt in
           elim (cases_lt e.place i) [
-            inl before ↦ none e.place e.entry before e.at_place r e.has_row k
-          | inr le ↦
-              not_earlier a e.entry (key pins liberty udps) (same_key i a row at in_rows h) (same_key e.place e.entry r e.at_place e.has_row k)
-              (far i e.place a e.entry at e.at_place le) (subst (λ n. n < a.row) (sym e.own) lt)
+            | inl before ↦ none e.place e.entry before e.at_place r e.has_row k
+            | inr le ↦
+                not_earlier a e.entry (key pins liberty udps) (same_key i a row at in_rows h) (same_key e.place e.entry r e.at_place e.has_row k)
+                (far i e.place a e.entry at e.at_place le) (subst (λ n. n < a.row) (sym e.own) lt)
           ];
     }
 
     pub none_more : (i : ℕ) (a : Entry) → slice_get entries i ≡ Some a → NoneBefore i → EntryCoversNot rows pins liberty udps nodes a → NoneBefore (i + 1)
     none_more i a at none here j e lt et row in_rows h =
         elim (cases_lt j i) [
-          inl before ↦ none j e before et row in_rows h
-        | inr le ↦
-            let same : j ≡ i = omega arith in
-            let bt : slice_get entries i ≡ Some e = subst (λ k. slice_get entries k ≡ Some e) same et in
-            let one : e ≡ a = cc in
-            here row (subst (λ x. slice_get rows x.row ≡ Some row) one in_rows) h
+          | inl before ↦ none j e before et row in_rows h
+          | inr le ↦
+              let same : j ≡ i = omega arith in
+              let bt : slice_get entries i ≡ Some e = subst (λ k. slice_get entries k ≡ Some e) same et in
+              let one : e ≡ a = cc in
+              here row (subst (λ x. slice_get rows x.row ≡ Some row) one in_rows) h
         ]

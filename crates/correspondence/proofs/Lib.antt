@@ -5,3 +5,6 @@ pub mod Orders
 pub mod Found
 pub mod Listed
 pub mod Turns
+pub mod Taking
+pub mod Adding
+pub mod Simple

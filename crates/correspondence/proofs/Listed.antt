@@ -15,10 +15,10 @@ pub listed_more : (old new : List Entry) (e : Entry) (i : ℕ) → new ≡ old +
     → (place : ℕ) → place < i + 1 → IsListed new place
 listed_more old new e i is own listed place lt =
     elim (cases_lt place i) [
-      inl before ↦
+      | inl before ↦
           let l = listed place before in
           record { entry = l.entry; among = subst (λ es. Contains es l.entry) (sym is) (Contains-append_left old (e ∷ []) l.entry l.among); own = l.own }
-    | inr le ↦
+      | inr le ↦
           record { entry = e; among = subst (λ es. Contains es e) (sym is) (Contains-push old e); own = omega arith }
     ]
 

@@ -101,9 +101,9 @@ module _ (text : List ℕ) (t : Token) (ts us : List Token) (next : ts ≡ follo
   pub longer : (is_end t.kind ≡ true → us ≡ ts) → length us ≤ length ts
   longer stays = by (is_end t.kind) refl
     where
-    by : (b : Bool) → is_end t.kind ≡ b → length us ≤ length ts
-    by true e = let f = ap length (stays e) in omega arith
-    by false e = let f = ap length (next ∙ followed_on t us e) in omega arith
+      by : (b : Bool) → is_end t.kind ≡ b → length us ≤ length ts
+      by true e = let f = ap length (stays e) in omega arith
+      by false e = let f = ap length (next ∙ followed_on t us e) in omega arith
 
 -- ---- what is left by the token that was read last
 
@@ -179,11 +179,11 @@ module _ (old new : Lines) (t : Token) (read : Read old new t) where
   word_next w is h k =
       let b = begun_word k in
       let words : words_left old ≡ placed w ∷ words_left new =
-          open_words old h ∙ ap words_of_first b ∙ words_with (word_of old.text.now t) (begun new) ∙ ap (λ x. x ∷ words_of_first (begun new)) (sym is)
-          ∙ ap (λ ws. placed w ∷ ws) (sym (open_words new (going k))) in
+      open_words old h ∙ ap words_of_first b ∙ words_with (word_of old.text.now t) (begun new) ∙ ap (λ x. x ∷ words_of_first (begun new)) (sym is)
+      ∙ ap (λ ws. placed w ∷ ws) (sym (open_words new (going k))) in
       let end : end_left old ≡ end_left new =
-          open_end old h ∙ ap (end_of_first old.last) b ∙ end_with old.last (word_of old.text.now t) (begun new)
-          ∙ ap (λ s. end_of_first s (begun new)) (sym read.last) ∙ sym (open_end new (going k)) in
+      open_end old h ∙ ap (end_of_first old.last) b ∙ end_with old.last (word_of old.text.now t) (begun new)
+      ∙ ap (λ s. end_of_first s (begun new)) (sym read.last) ∙ sym (open_end new (going k)) in
       (words, sym end)
 
   pub word_lines : ends_line old.last.kind ≡ false → ends_line t.kind ≡ false → lines_left new ≡ lines_left old

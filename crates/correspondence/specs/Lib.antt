@@ -7,3 +7,4 @@ pub mod Words
 pub mod Parts
 pub mod Actions
 pub mod Grammar
+pub mod Steps

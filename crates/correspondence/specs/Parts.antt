@@ -15,7 +15,7 @@ no_table = record { cell = []; line = 0; pins = no_names; xpins = no_names; stat
 
 -- before the first line
 abbrev pub nothing : Parts
-nothing = record { names = []; tables = []; open = no_table }
+nothing = record { names = []; tables = []; current = no_table }
 
 -- the list of this kind is this one
 abbrev pub with_names : LineKind → NamesLine → OpenTable → OpenTable

@@ -62,9 +62,9 @@ unfoldable pub names_refusal : Limits → List PlacedWord → Option FileRefusal
 names_refusal limits [] = None
 names_refusal limits (w ∷ ws) = first_of (name_refusal limits w) (names_refusal limits ws)
 
--- a line of names
-abbrev pub names_line : Limits → Line → Result NamesLine FileRefusal
-names_line limits l = unless (names_refusal limits (behind l.words)) (record { names = map bytes_of (behind l.words); line = line_number l })
+-- the names of a line with this number whose words behind the first are these
+unfoldable pub names_of : Limits → ℕ → List PlacedWord → Result NamesLine FileRefusal
+names_of limits line ws = unless (names_refusal limits ws) (record { names = map bytes_of ws; line = line })
 
 -- ---- values
 
@@ -75,11 +75,17 @@ is_value b = b == 48 || b == 49 || b == 88
 abbrev pub value_of : ℕ → Tern
 value_of b = if b == 48 then Zero else if b == 49 then One else Unknown
 
+abbrev pub are_values : List ℕ → Bool
+are_values bytes = list_all is_value bytes
+
+abbrev pub made_values : List ℕ → List Tern
+made_values bytes = map value_of bytes
+
 -- the values that a word tells, a lone - telling none; other words tell nothing
 unfoldable pub values_of : List ℕ → Option (List Tern)
 values_of bytes =
     if bytes_eq bytes (codes "-") then Some []
-    else if list_all is_value bytes then Some (map value_of bytes)
+    else if are_values bytes then Some (made_values bytes)
     else None
 
 -- the values of a line's next word, and the words behind it
@@ -98,9 +104,9 @@ two_values ws ending =
     next_values a.1 ending >>= λ b.
     Ok ((a.0, b.0), b.1)
 
--- a row: four words tell values, and no word follows
-unfoldable pub row_of : Line → Result Row FileRefusal
-row_of l =
-    two_values (behind l.words) l.ending >>= λ a.
-    two_values a.1 l.ending >>= λ b.
-    unless (more_refusal b.1) (record { line = line_number l; pins = a.0.0; liberty = a.0.1; udps = b.0.0; nodes = b.0.1 })
+-- a row, by its line's number, the words behind the first and the line's end: four words tell values, and none follows
+unfoldable pub row_of : ℕ → List PlacedWord → Token → Result Row FileRefusal
+row_of line ws ending =
+    two_values ws ending >>= λ a.
+    two_values a.1 ending >>= λ b.
+    unless (more_refusal b.1) (record { line = line; pins = a.0.0; liberty = a.0.1; udps = b.0.0; nodes = b.0.1 })

@@ -2,6 +2,7 @@
 //! a state.
 #![tactic(auto)]
 
+mod actions;
 mod covering;
 mod entry;
 mod index;
@@ -9,10 +10,16 @@ mod indexing;
 mod kinds;
 pub mod laws;
 mod lines;
+mod names;
 mod parts;
+mod public_call;
 mod reading;
+mod steps;
 mod table;
+mod values;
 mod word;
 
 pub use covering::cover;
 pub use index::RowIndex;
+pub use public_call::read_tables;
+pub use table_source::{Row, Table, Tables};

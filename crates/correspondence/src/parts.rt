@@ -10,7 +10,7 @@ use text_scan::Items;
 pub struct Parts {
     pub names: Names,
     pub tables: Items<Table>,
-    pub open: OpenTable,
+    pub current: OpenTable,
 }
 
 /// A reader between two lines: what is read, and the kind of the last line; at first that of a table's end.

@@ -6,5 +6,5 @@ use Rattle.correspondence.proofs.indexing.entries_of.Given as goal
 abbrev pub invariant-loop-i : goal.invariant-loop-i
 invariant-loop-i l = record {
   own : All (IsEntryOf l.rows) l.entries.items;
-  listed : (place : ℕ) → place < l.i → IsListed l.entries.items place
+  listed : (place : ℕ) → place < l.i → IsListed l.entries.items place;
 }

@@ -40,7 +40,7 @@ returns-then-covers c =
     let rows = c.as_slice-rows.result.now in
     let at = slice_get_read entries (length entries) c.loop-i.i c.index-entry.result.now refl (omega arith) c.index-entry.ensures in
     let within = subst (λ rows. c.index-entry.result.now.row < length rows) (sym c.as_slice-rows.ensures)
-        (row_within c.args.table.now.rows entries c.requires.entries c.loop-i.i c.index-entry.result.now at) in
+    (row_within c.args.table.now.rows entries c.requires.entries c.loop-i.i c.index-entry.result.now at) in
     let in_rows = slice_get_read rows (length rows) c.index-entry.result.now.row c.index-rows-entry.result refl within c.index-rows-entry.is in
     first_here c.args.table.now.rows entries c.requires.entries c.requires.sorted c.args.pins.now c.args.liberty.now c.args.udps.now c.args.nodes.now
     c.loop-i.i c.index-entry.result.now c.index-rows-entry.result at (subst (λ rows. slice_get rows c.index-entry.result.now.row ≡ Some c.index-rows-entry.result) c.as_slice-rows.ensures in_rows)
@@ -52,7 +52,7 @@ loop-i-preserved c =
     let rows = c.as_slice-rows.result.now in
     let at = slice_get_read entries (length entries) c.loop-i.i c.index-entry.result.now refl (omega arith) c.index-entry.ensures in
     let within = subst (λ rows. c.index-entry.result.now.row < length rows) (sym c.as_slice-rows.ensures)
-        (row_within c.args.table.now.rows entries c.requires.entries c.loop-i.i c.index-entry.result.now at) in
+    (row_within c.args.table.now.rows entries c.requires.entries c.loop-i.i c.index-entry.result.now at) in
     let in_rows = slice_get_read rows (length rows) c.index-entry.result.now.row c.index-rows-entry.result refl within c.index-rows-entry.is in
     let here = subst (λ rows. slice_get rows c.index-entry.result.now.row ≡ Some c.index-rows-entry.result) c.as_slice-rows.ensures in_rows in
     none_more c.args.table.now.rows entries c.requires.entries c.requires.sorted c.args.pins.now c.args.liberty.now c.args.udps.now c.args.nodes.now
