@@ -8,3 +8,4 @@ pub mod Turns
 pub mod Taking
 pub mod Adding
 pub mod Simple
+pub mod Follows

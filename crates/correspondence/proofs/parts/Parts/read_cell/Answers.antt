@@ -10,7 +10,7 @@ pub returns-in-LineEnd-clause-cell : goal.returns-in-LineEnd-clause-cell
 returns-in-LineEnd-clause-cell c =
     rw c.at_token.ensures
     (cell_missing c.args.limits.now c.args.self.now.names (words_left c.args.lines.now) (end_left c.args.lines.now) c.in-LineEnd.token
-        c.in-LineEnd.ensures.came.0 c.in-LineEnd.ensures.came.1)
+    c.in-LineEnd.ensures.came.0 c.in-LineEnd.ensures.came.1)
 
 pub returns-in-Err-clause-cell : goal.returns-in-Err-clause-cell
 returns-in-Err-clause-cell c =
@@ -31,7 +31,8 @@ returns-in-Err-check_end-clause-cell c =
 pub returns-in-Ok-clause-cell : goal.returns-in-Ok-clause-cell
 returns-in-Ok-clause-cell c =
     let us = words_left c.next_word.new.self in
-    let w = placed c.in-Word.word in
-    (cell_is c.args.limits.now c.args.self.now.names (words_left c.args.lines.now) us w (end_left c.args.lines.now) c.in-Word.ensures.came.0
-        ∙ ap (λ o. first_of o (more_refusal us)) c.in_default.ensures ∙ c.in-Ok.ensures.end
-    , cell_named (words_left c.args.lines.now) us w c.in-Word.ensures.came.0)
+    let w = placed c.in-Word.word in (
+      cell_is c.args.limits.now c.args.self.now.names (words_left c.args.lines.now) us w (end_left c.args.lines.now) c.in-Word.ensures.came.0
+          ∙ ap (λ o. first_of o (more_refusal us)) c.in_default.ensures ∙ c.in-Ok.ensures.end,
+      cell_named (words_left c.args.lines.now) us w c.in-Word.ensures.came.0,
+    )
