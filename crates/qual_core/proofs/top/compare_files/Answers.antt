@@ -55,7 +55,7 @@ returns-in_err-source-clause-succeeds g c told none reply outcome =
     let told_none = subst (λ (f : ℕ → Bool). NoneFails f) (sym c.in_ok-library.ensures.fails) none in
     let told_there = subst (λ (f : List ℕ → Option (List ℕ)). IsSome (f verilog)) (sym c.in_ok-library.ensures.files) there in
     let no_fault = c.in_err-source.ensures.succeeds told told_none told_there in
-    ?
+    search (rules, no_fault)
 
 pub returns-in_err-source-clause-none_missing : goal.returns-in_err-source-clause-none_missing
 returns-in_err-source-clause-none_missing g c told reply outcome =

@@ -1,0 +1,11 @@
+pub mod Ordered
+pub mod First
+pub mod Terns
+pub mod Orders
+pub mod Found
+pub mod Listed
+pub mod Turns
+pub mod Taking
+pub mod Adding
+pub mod Simple
+pub mod Follows

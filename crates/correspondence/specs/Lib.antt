@@ -1,0 +1,10 @@
+pub mod Cover
+pub mod Index
+pub mod Lines
+pub mod Left
+pub mod Kinds
+pub mod Words
+pub mod Parts
+pub mod Actions
+pub mod Grammar
+pub mod Steps
