@@ -72,7 +72,7 @@ pub part_writes_truly : (words : List (List ℕ)) (file : List ℕ → Option (L
 part_writes_truly words file old new text truly part accepted =
     let whole : take part.0 text ++ drop part.0 text ≡ text = take-append-drop part.0 text in
     let front = part_truly accepted.files.library accepted.files.source (take part.0 text) (drop part.0 text)
-        (subst (λ t. SaysEqualTruly accepted.files.library accepted.files.source t) (sym whole) (truly accepted)) in
+    (subst (λ t. SaysEqualTruly accepted.files.library accepted.files.source t) (sym whole) (truly accepted)) in
     subst (λ t. SaysEqualTruly accepted.files.library accepted.files.source t) (sym (written old (take part.0 text) new part.2)) front
 
 -- nothing was written
