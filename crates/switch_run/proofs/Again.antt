@@ -202,10 +202,10 @@ pub idempotent : (n : Net) (pins state next after : List Tern) (node : ℕ) → 
     → IsResponse n (state ++ pins) next → IsResponse n (next ++ pins) after → HasSameGates n node (state ++ pins) (next ++ pins) → value_at after node ≡ value_at next node
 idempotent n pins state next after node ok count lt r t same =
     let same' : SameGates n (IsInPartOf n node) (state ++ pins) (next ++ pins) = unfold SameGates in (λ u within m k leads lt path. same u m k within path leads) in
-    let front : (k : ℕ) → k < n.storage → value_at (next ++ pins) k ≡ value_at next k = λ k lt. get_or-append next pins Zero k (omega (arith, r.count)) in
+    let front : (k : ℕ) → k < n.storage → value_at (next ++ pins) k ≡ value_at next k = λ k lt. get_or-append next pins Unknown k (omega (arith, r.count)) in
     idempotent_part n ok (IsInPartOf n node) (part_closed n node) (state ++ pins) (next ++ pins) same'
     (record {
-      inputs = λ k le. get_or-append_right next pins n.storage k Zero r.count le ∙ sym (get_or-append_right state pins n.storage k Zero count le);
+      inputs = λ k le. get_or-append_right next pins n.storage k Unknown r.count le ∙ sym (get_or-append_right state pins n.storage k Unknown count le);
       nodes = λ k lt. subst (Becomes n (state ++ pins) k) (sym (front k lt)) (r.each k lt);
     })
     after t node lt ([], lt, refl) ∙ front node lt
