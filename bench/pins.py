@@ -1,4 +1,5 @@
-"""Writes what pin_rows reads and what it must print: a library, a source text, the cases and the expected lines.
+"""Writes what pin_rows reads and what it must print: a library, a source text, a netlist, a LEF file, the cases and the
+expected lines.
 
 The expected lines come from the rules as this script has them ("Pin tables and their findings" of docs/MEANING.md), and
 from nothing that the program prints. Beside some cases stand findings that were found by hand; the script stops where they
@@ -11,6 +12,9 @@ from pathlib import Path
 
 LIBERTY_WORDS = {"i": "input", "o": "output", "n": "internal", "+": "primary_power", "-": "primary_ground"}
 VERILOG_WORDS = {"i": "input", "o": "output", "b": "inout"}
+CDL_WORDS = {"i": "I", "o": "O", "b": "B"}
+LEF_WORDS = {"i": "INPUT", "o": "OUTPUT", "t": "OUTPUT TRISTATE", "b": "INOUT", "f": "FEEDTHRU"}
+LEF_USES = {"": "SIGNAL", "+": "POWER", "-": "GROUND"}
 VIEWS = ["verilog", "cdl", "lef"]
 
 
@@ -27,7 +31,8 @@ def pins(words):
     return [Pin(word) for word in words.replace(",", " ").split() if word != "."]
 
 
-# Cells and modules: their pins in the order of the file.
+# Cells, modules, subcircuits and macros: their pins in the order of the file. `a` is a pin that no direction is given to,
+# `t` a three-state output.
 CELLS = {
     "LENT": "IQ:n A:i",
     "OWN": "GND:a- A:i",
@@ -43,6 +48,15 @@ MODULES = {
     "NAMED_LIKE_SUPPLIES": "VSS:i VDD:i",
     "FLIP_FLOP": "Q:o D:i CK:o IQ:o VSS:b nowell:b",
 }
+SUBCIRCUITS = {
+    "OWN": "A:o GND:b",
+    "PORTS": "VDD:i Y:a",
+    "FLIP_FLOP": "VSS:b VDD:a Q:i D:a CK:i QN:o IQ:o",
+}
+MACROS = {
+    "OWN": "GND:b A:f-",
+    "FLIP_FLOP": "Q:t D:i CK:o IQ:o VSS:b- nowell:b",
+}
 
 
 def cell(name):
@@ -56,6 +70,16 @@ def module(name):
     return f"module {name} ({ports});\nendmodule"
 
 
+def subcircuit(name):
+    told = [f"*.PININFO {p.name}:{CDL_WORDS[p.direction]}" for p in pins(SUBCIRCUITS[name]) if p.direction != "a"]
+    return "\n".join([" ".join([".SUBCKT", name, *(p.name for p in pins(SUBCIRCUITS[name]))]), *told, ".ENDS"])
+
+
+def macro(name):
+    stands = [f"PIN {p.name}\nDIRECTION {LEF_WORDS[p.direction]} ;\nUSE {LEF_USES[p.kind]} ;\nEND {p.name}" for p in pins(MACROS[name])]
+    return "\n".join([f"MACRO {name}", *stands, f"END {name}"])
+
+
 def liberty_table(name, supplies):
     own = pins(CELLS[name])
     table = [pin for pin in own if pin.direction != "n"]
@@ -64,9 +88,18 @@ def liberty_table(name, supplies):
     return table
 
 
-def module_table(name, liberty):
+def beside(words, liberty):
+    """Pins of another view, each of the kind that Liberty's table gives its name at its first place."""
     kinds = {pin.name: pin.kind for pin in reversed(liberty)}
-    return [Pin(pin.word + kinds.get(pin.name, "")) for pin in pins(MODULES[name])]
+    return [Pin(pin.word + kinds.get(pin.name, "")) for pin in pins(words)]
+
+
+def view_table(view, name, liberty):
+    """The table of what has this name in the view's file."""
+    if view == "lef":
+        return pins(MACROS[name].replace(":t", ":o")) if name in MACROS else None
+    words = (MODULES if view == "verilog" else SUBCIRCUITS).get(name)
+    return None if words is None else beside(words, liberty)
 
 
 def first_of(table, name):
@@ -104,16 +137,16 @@ class Case:
     def lines(self):
         supplies, word, *words = self.words
         liberty = liberty_table(word[1:], supplies) if word[0] == "@" else pins(word)
-        others = {view: self.table(other, liberty) for view, other in zip(VIEWS, words)}
+        others = {view: self.table(view, other, liberty) for view, other in zip(VIEWS, words)}
         told = findings(liberty, others)
         assert self.found is None or self.found.split(", ") == told, (self.words, told)
         shown = [self.shown(view, others[view], other) for view, other in zip(VIEWS, words)]
         return [self.shown("liberty", liberty, word), *shown, *(f"finding {line}" for line in told)]
 
-    def table(self, word, liberty):
-        if word == "-" or word[0] == "@" and word[1:] not in MODULES:
+    def table(self, view, word, liberty):
+        if word == "-":
             return None
-        return module_table(word[1:], liberty) if word[0] == "@" else pins(word)
+        return view_table(view, word[1:], liberty) if word[0] == "@" else pins(word)
 
     def shown(self, view, table, word):
         if table is None:
@@ -160,6 +193,10 @@ def files():
     yield Case("VDD:a- Y:o VDD:a+", "@PORTS", found="P1 - cdl, P1 - lef, P2 B liberty")
     yield Case("@FLIP_FLOP", "@FLIP_FLOP", "D:i CK:i Q:o QN:o VDD:a VSS:a", "@FLIP_FLOP", supplies="VPWR:a+",
                found="P3 CK verilog, P3 CK lef, P2 QN verilog, P2 QN lef, P2 VDD lef, P2 IQ liberty, P2 nowell liberty")
+    yield Case("@OWN", "@OWN", "@OWN", "@OWN", found="P4 GND lef, P3 A cdl, P3 A lef")
+    yield Case("@FLIP_FLOP", "-", "@FLIP_FLOP", "@FLIP_FLOP",
+               found="P1 - verilog, P3 CK lef, P3 Q cdl, P2 QN lef, P2 VDD lef, P2 IQ liberty, P2 nowell liberty")
+    yield Case("VDD:a- Y:o VDD:a+", "-", "@PORTS", "@NOWHERE", found="P1 - verilog, P1 - lef")
 
 
 def main(folder):
@@ -167,8 +204,10 @@ def main(folder):
     texts = {
         "data/cells.lib": "\n".join(["library (pins) {", *map(cell, CELLS), "}"]),
         "data/modules.v": "\n".join(map(module, MODULES)),
+        "data/subcircuits.cdl": "\n".join(map(subcircuit, SUBCIRCUITS)),
+        "data/macros.lef": "\n".join([*map(macro, MACROS), "END LIBRARY"]),
         "data/cases.txt": "\n".join([*(" ".join(case.words) for case in cases), ". @NOWHERE - - -"]),
-        "args": "cells.lib\nmodules.v\ncases.txt",
+        "args": "cells.lib\nmodules.v\nsubcircuits.cdl\nmacros.lef\ncases.txt",
         "stdout": "\n".join([*(line for case in cases for line in case.lines()), "no such cell"]),
     }
     for name, text in texts.items():

@@ -6,7 +6,7 @@ use Rattle.verdict_text.specs.declared.finding.Change.{Change}
 use Rattle.verdict_text.specs.declared.finding.Mismatch.{Mismatch}
 use Rattle.verdict_text.specs.declared.finding.Finding.{Finding}
 use Rattle.verdict_text.specs.declared.reason.Reason.{Reason}
-use Rattle.verdict_text.specs.declared.reason.Reason.TheVariants.{Construct, UnknownName, BadFunction, BadStateRow, UdpRow, UdpRows, Loop, TwoDrivers, UnknownUdp, PortCount, UnknownModel, SupplyShort, Limit, NoTable, EmptyTable, TableShape, RowNotAtRest, NotClosed, Moving}
+use Rattle.verdict_text.specs.declared.reason.Reason.TheVariants.{Construct, UnknownName, BadFunction, BadStateRow, UdpRow, UdpRows, Loop, TwoDrivers, UnknownUdp, PortCount, UnknownModel, SupplyShort, FloatRead, BadShape, Limit, NoTable, EmptyTable, TableShape, RowNotAtRest, NotClosed, Moving}
 use Rattle.cell_compare.specs.declared.comparison.Comparison.{Comparison}
 use Rattle.cell_compare.specs.declared.comparison.Comparison.TheVariants.{Refused, Pins, Vectors}
 
@@ -38,6 +38,8 @@ reason_texts (UnknownUdp name) = name ∷ []
 reason_texts (PortCount label) = label ∷ []
 reason_texts (UnknownModel name) = name ∷ []
 reason_texts (SupplyShort node) = node ∷ []
+reason_texts (FloatRead net) = net ∷ []
+reason_texts (BadShape pin index) = pin ∷ []
 reason_texts (Limit kind number) = []
 reason_texts NoTable = []
 reason_texts EmptyTable = []

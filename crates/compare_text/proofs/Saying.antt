@@ -1,6 +1,7 @@
 -- What a report says of cells is so.
 use Rattle.std.proofs.Common.{◌≡◌, ℕ, zero, suc, ◌+◌, refl, sym, ◌∙◌, ap, subst, arith, List, [], ◌∷◌, ◌++◌, append_assoc, append-nil, map, length, Option, Some, None, Bool, true, false, ◌&&◌, codes, decimal, slice_get}
 use Rattle.std.specs.List.{flat_map, list_all}
+use Rattle.std.proofs.lemmas.List.Folds.{list_all-append}
 use Rattle.tern_core.specs.declared.tern.Tern.{Tern}
 use Rattle.tern_core.specs.declared.tern.Tern.TheVariants.{Zero, One, Unknown}
 use Rattle.tern_core.specs.Values.{symbol_of}
@@ -17,7 +18,7 @@ use Rattle.liberty_source.specs.Library.{cell_name, is_part, IsLibrary}
 use Rattle.verilog_source.specs.declared.Source.{Source}
 use Rattle.verilog_source.specs.Source.{IsSource}
 use Rattle.verdict_text.specs.Words.{view_word, code_word}
-use Rattle.verdict_text.specs.Lines.{change_word, pin_word, any_change_word, row_words, values_words, any_mismatch_words, mismatch_words, waived_words, finding_words, step_words, moving_words, reason_words, finding_line, reason_line}
+use Rattle.verdict_text.specs.Lines.{after_blank, spaced, value_word, change_word, pin_word, any_change_word, mismatch_words, waived_words, finding_words, reason_words, finding_text, reason_text, finding_line, reason_line}
 use Rattle.verdict_text.specs.declared.finding.View.{View}
 use Rattle.verdict_text.specs.declared.finding.View.TheVariants as views
 use Rattle.verdict_text.specs.declared.finding.Code.{Code}
@@ -26,7 +27,7 @@ use Rattle.verdict_text.specs.declared.finding.Change.{Change}
 use Rattle.verdict_text.specs.declared.finding.Mismatch.{Mismatch}
 use Rattle.verdict_text.specs.declared.finding.Finding.{Finding}
 use Rattle.verdict_text.specs.declared.reason.Reason.{Reason}
-use Rattle.verdict_text.specs.declared.reason.Reason.TheVariants.{Construct, UnknownName, BadFunction, BadStateRow, UdpRow, UdpRows, Loop, TwoDrivers, UnknownUdp, PortCount, UnknownModel, SupplyShort, Limit, NoTable, EmptyTable, TableShape, RowNotAtRest, NotClosed, Moving}
+use Rattle.verdict_text.specs.declared.reason.Reason.TheVariants.{Construct, UnknownName, BadFunction, BadStateRow, UdpRow, UdpRows, Loop, TwoDrivers, UnknownUdp, PortCount, UnknownModel, SupplyShort, FloatRead, BadShape, Limit, NoTable, EmptyTable, TableShape, RowNotAtRest, NotClosed, Moving}
 use Rattle.cell_compare.specs.declared.comparison.Comparison.{Comparison}
 use Rattle.cell_compare.specs.declared.comparison.Comparison.TheVariants.{Refused, Pins, Vectors}
 use Rattle.cell_compare.specs.Compare.{IsComparison}
@@ -55,13 +56,17 @@ code_line codes_of.P4 = refl
 code_line codes_of.H1 = refl
 code_line codes_of.H2 = refl
 code_line codes_of.H3 = refl
+code_line codes_of.H4 = refl
+code_line codes_of.H5 = refl
 code_line codes_of.M1 = refl
 code_line codes_of.M2 = refl
+code_line codes_of.Z1 = refl
+code_line codes_of.Z2 = refl
 
-symbol_line : (t : Tern) → is_line (symbol_of t ∷ []) ≡ true
-symbol_line Zero = refl
-symbol_line One = refl
-symbol_line Unknown = refl
+value_line : (t : Tern) → is_line (value_word t) ≡ true
+value_line Zero = refl
+value_line One = refl
+value_line Unknown = refl
 
 kind_line : (k : LimitKind) → is_line (word_of k) ≡ true
 kind_line kinds.Inputs = refl
@@ -80,105 +85,85 @@ kind_line kinds.Rects = refl
 text_line : (text : List ℕ) (rest : List (List ℕ)) → AreGraphic (text ∷ rest) → is_line text ≡ true
 text_line text rest h = graphic_line text (both_true _ _ h).0
 
+-- words with a blank before each
+spaced_line : (ws : List (List ℕ)) → list_all is_line ws ≡ true → is_line (spaced ws) ≡ true
+spaced_line [] h = refl
+spaced_line (w ∷ ws) h =
+    let both : (is_line w ≡ true) × (list_all is_line ws ≡ true) = both_true _ _ h in
+    joined_line (after_blank w) (spaced ws) both.0 (spaced_line ws both.1)
+
 change_line : (c : Change) (rest : List (List ℕ)) → AreGraphic (c.pin ∷ rest) → is_line (change_word c) ≡ true
-change_line c rest h = joined_line (c.pin ++ codes "=") (symbol_of c.value ∷ []) (joined_line c.pin (codes "=") (text_line c.pin rest h) refl) (symbol_line c.value)
+change_line c rest h = joined_line c.pin (61 ∷ value_word c.value) (text_line c.pin rest h) (value_line c.value)
 
 any_change_line : (c : Option Change) → AreGraphic (change_texts c) → is_line (any_change_word c) ≡ true
 any_change_line None h = refl
 any_change_line (Some c) h = change_line c [] h
 
-row_line : (row : ℕ) → is_line (row_words row) ≡ true
-row_line row = joined_line (codes " row " ++ decimal row) (codes " change ") (joined_line (codes " row ") (decimal row) refl (decimal_line row)) refl
-
-values_line : (a b : Tern) → is_line (values_words a b) ≡ true
-values_line a b =
-    joined_line (codes " liberty " ++ symbol_of a ∷ [] ++ codes " view ") (symbol_of b ∷ [])
-    (joined_line (codes " liberty " ++ symbol_of a ∷ []) (codes " view ") (joined_line (codes " liberty ") (symbol_of a ∷ []) refl (symbol_line a)) refl) (symbol_line b)
-
-step_line : (row : ℕ) (c : Change) (rest : List (List ℕ)) → AreGraphic (c.pin ∷ rest) → is_line (step_words row c) ≡ true
-step_line row c rest h = joined_line (row_words row) (change_word c) (row_line row) (change_line c rest h)
-
-reason_line_of : (r : Reason) → AreGraphic (reason_texts r) → is_line (reason_words r) ≡ true
-reason_line_of (Construct view word line) h =
-    joined_line (codes "construct " ++ view_word view ++ codes " line " ++ decimal line ++ codes " ") word
-    (joined_line (codes "construct " ++ view_word view ++ codes " line " ++ decimal line) (codes " ")
-    (joined_line (codes "construct " ++ view_word view ++ codes " line ") (decimal line)
-    (joined_line (codes "construct " ++ view_word view) (codes " line ") (joined_line (codes "construct ") (view_word view) refl (view_line view)) refl) (decimal_line line)) refl) (text_line word [] h)
-reason_line_of (UnknownName name) h = joined_line (codes "unknown name ") name refl (text_line name [] h)
-reason_line_of (BadFunction owner place) h =
-    joined_line (codes "function " ++ owner ++ codes " place ") (decimal place)
-    (joined_line (codes "function " ++ owner) (codes " place ") (joined_line (codes "function ") owner refl (text_line owner [] h)) refl) (decimal_line place)
-reason_line_of (BadStateRow row) h = joined_line (codes "state row ") (decimal row) refl (decimal_line row)
-reason_line_of (UdpRow udp row) h =
-    joined_line (codes "udp " ++ udp ++ codes " row ") (decimal row) (joined_line (codes "udp " ++ udp) (codes " row ") (joined_line (codes "udp ") udp refl (text_line udp [] h)) refl) (decimal_line row)
-reason_line_of (UdpRows udp first second) h =
-    joined_line (codes "udp " ++ udp ++ codes " rows " ++ decimal first ++ codes " ") (decimal second)
-    (joined_line (codes "udp " ++ udp ++ codes " rows " ++ decimal first) (codes " ")
-    (joined_line (codes "udp " ++ udp ++ codes " rows ") (decimal first) (joined_line (codes "udp " ++ udp) (codes " rows ") (joined_line (codes "udp ") udp refl (text_line udp [] h)) refl) (decimal_line first)) refl) (decimal_line second)
-reason_line_of (Loop net) h = joined_line (codes "loop ") net refl (text_line net [] h)
-reason_line_of (TwoDrivers net) h = joined_line (codes "two drivers ") net refl (text_line net [] h)
-reason_line_of (UnknownUdp name) h = joined_line (codes "unknown udp ") name refl (text_line name [] h)
-reason_line_of (PortCount label) h = joined_line (codes "port count ") label refl (text_line label [] h)
-reason_line_of (UnknownModel name) h = joined_line (codes "unknown model ") name refl (text_line name [] h)
-reason_line_of (SupplyShort node) h = joined_line (codes "short ") node refl (text_line node [] h)
-reason_line_of (Limit kind number) h =
-    joined_line (codes "limit " ++ word_of kind ++ codes " ") (decimal number) (joined_line (codes "limit " ++ word_of kind) (codes " ") (joined_line (codes "limit ") (word_of kind) refl (kind_line kind)) refl) (decimal_line number)
-reason_line_of NoTable h = refl
-reason_line_of EmptyTable h = refl
-reason_line_of (TableShape line) h = joined_line (codes "table line ") (decimal line) refl (decimal_line line)
-reason_line_of (RowNotAtRest row place) h =
-    joined_line (codes "not at rest row " ++ decimal row ++ codes " ") place (joined_line (codes "not at rest row " ++ decimal row) (codes " ") (joined_line (codes "not at rest row ") (decimal row) refl (decimal_line row)) refl) (text_line place [] h)
-reason_line_of (NotClosed row change) h = joined_line (codes "not closed") (step_words row change) refl (step_line row change [] h)
-reason_line_of (Moving row change node) h =
-    joined_line (codes "moving" ++ step_words row change ++ codes " node ") node
-    (joined_line (codes "moving" ++ step_words row change) (codes " node ") (joined_line (codes "moving") (step_words row change) refl (step_line row change (node ∷ []) h)) refl)
-    (text_line node [] (both_true _ _ h).1)
+reason_lines : (r : Reason) → AreGraphic (reason_texts r) → list_all is_line (reason_words r) ≡ true
+reason_lines (Construct view word line) h = rw (view_line view, decimal_line line, text_line word [] h) refl
+reason_lines (UnknownName name) h = rw (text_line name [] h) refl
+reason_lines (BadFunction owner place) h = rw (text_line owner [] h, decimal_line place) refl
+reason_lines (BadStateRow row) h = rw (decimal_line row) refl
+reason_lines (UdpRow udp row) h = rw (text_line udp [] h, decimal_line row) refl
+reason_lines (UdpRows udp first second) h = rw (text_line udp [] h, decimal_line first, decimal_line second) refl
+reason_lines (Loop net) h = rw (text_line net [] h) refl
+reason_lines (TwoDrivers net) h = rw (text_line net [] h) refl
+reason_lines (UnknownUdp name) h = rw (text_line name [] h) refl
+reason_lines (PortCount label) h = rw (text_line label [] h) refl
+reason_lines (UnknownModel name) h = rw (text_line name [] h) refl
+reason_lines (SupplyShort node) h = rw (text_line node [] h) refl
+reason_lines (FloatRead net) h = rw (text_line net [] h) refl
+reason_lines (BadShape pin index) h = rw (text_line pin [] h, decimal_line index) refl
+reason_lines (Limit kind number) h = rw (kind_line kind, decimal_line number) refl
+reason_lines NoTable h = refl
+reason_lines EmptyTable h = refl
+reason_lines (TableShape line) h = rw (decimal_line line) refl
+reason_lines (RowNotAtRest row place) h = rw (decimal_line row, text_line place [] h) refl
+reason_lines (NotClosed row change) h = rw (decimal_line row, change_line change [] h) refl
+reason_lines (Moving row change node) h =
+    rw (decimal_line row, change_line change (node ∷ []) h, text_line node [] (both_true _ _ h).1) refl
 
 pin_line : (pin : Option (List ℕ)) → AreGraphic (pin_texts pin) → is_line (pin_word pin) ≡ true
 pin_line None h = refl
 pin_line (Some pin) h = text_line pin [] h
 
-mismatch_line : (m : Option Mismatch) → AreGraphic (mismatch_texts m) → is_line (any_mismatch_words m) ≡ true
-mismatch_line None h = refl
-mismatch_line (Some m) h =
-    joined_line (row_words m.row ++ any_change_word m.change) (values_words m.liberty m.other)
-    (joined_line (row_words m.row) (any_change_word m.change) (row_line m.row) (any_change_line m.change h)) (values_line m.liberty m.other)
+mismatch_lines : (m : Option Mismatch) → AreGraphic (mismatch_texts m) → list_all is_line (mismatch_words m) ≡ true
+mismatch_lines None h = refl
+mismatch_lines (Some m) h = rw (decimal_line m.row, any_change_line m.change h, value_line m.liberty, value_line m.other) refl
 
-waived_line : (w : Option ℕ) → is_line (waived_words w) ≡ true
-waived_line None = refl
-waived_line (Some n) = joined_line (codes " waived ") (decimal n) refl (decimal_line n)
+waived_lines : (w : Option ℕ) → list_all is_line (waived_words w) ≡ true
+waived_lines None = refl
+waived_lines (Some n) = rw (decimal_line n) refl
 
-finding_line_of : (f : Finding) → AreGraphic (finding_texts f) → is_line (finding_words f) ≡ true
-finding_line_of f h =
+finding_lines : (f : Finding) → AreGraphic (finding_texts f) → list_all is_line (finding_words f) ≡ true
+finding_lines f h =
     let texts = all_parts are_graphic (pin_texts f.pin) (mismatch_texts f.mismatch) h in
-    joined_line (code_word f.code ++ codes " " ++ pin_word f.pin ++ codes " " ++ view_word f.view ++ any_mismatch_words f.mismatch) (waived_words f.waiver)
-    (joined_line (code_word f.code ++ codes " " ++ pin_word f.pin ++ codes " " ++ view_word f.view) (any_mismatch_words f.mismatch)
-    (joined_line (code_word f.code ++ codes " " ++ pin_word f.pin ++ codes " ") (view_word f.view)
-    (joined_line (code_word f.code ++ codes " " ++ pin_word f.pin) (codes " ")
-    (joined_line (code_word f.code ++ codes " ") (pin_word f.pin)
-    (joined_line (code_word f.code) (codes " ") (code_line f.code) refl) (pin_line f.pin texts.0)) refl) (view_line f.view)) (mismatch_line f.mismatch texts.1)) (waived_line f.waiver)
+    rw (code_line f.code, pin_line f.pin texts.0, view_line f.view, list_all-append is_line (mismatch_words f.mismatch) (waived_words f.waiver),
+        mismatch_lines f.mismatch texts.1, waived_lines f.waiver) refl
+
+finding_line_of : (f : Finding) → AreGraphic (finding_texts f) → is_line (finding_text f) ≡ true
+finding_line_of f h = joined_line (codes "finding") (spaced (finding_words f)) refl (spaced_line (finding_words f) (finding_lines f h))
+
+reason_line_of : (r : Reason) → AreGraphic (reason_texts r) → is_line (reason_text r) ≡ true
+reason_line_of r h = joined_line (codes "refused") (spaced (reason_words r)) refl (spaced_line (reason_words r) (reason_lines r h))
 
 -- ---- a block as lines
 
-finding_front : Finding → List ℕ
-finding_front f = codes "finding " ++ finding_words f
-
 first_front : Option Finding → List (List ℕ)
 first_front None = []
-first_front (Some f) = finding_front f ∷ []
+first_front (Some f) = finding_text f ∷ []
 
 found_front : Comparison → List (List ℕ)
-found_front (Refused r) = (codes "refused " ++ reason_words r) ∷ []
-found_front (Pins found) = map finding_front found
+found_front (Refused r) = reason_text r ∷ []
+found_front (Pins found) = map finding_text found
 found_front (Vectors n d first) = (codes "vectors " ++ decimal n) ∷ (codes "defined " ++ decimal d) ∷ first_front first
 
-findings_joined : (found : List Finding) → flat_map finding_line found ≡ flat_map line (map finding_front found)
-unfolding finding_front
+findings_joined : (found : List Finding) → flat_map finding_line found ≡ flat_map line (map finding_text found)
 findings_joined [] = refl
 findings_joined (f ∷ found) = ap (λ rest. finding_line f ++ rest) (findings_joined found)
 
 first_joined : (first : Option Finding) → first_lines first ≡ flat_map line (first_front first)
-unfolding first_front finding_front
+unfolding first_front
 first_joined None = refl
 first_joined (Some f) = sym (append-nil (finding_line f))
 
@@ -190,20 +175,16 @@ found_joined (Vectors n d first) =
     append_assoc (line (codes "vectors " ++ decimal n)) (line (codes "defined " ++ decimal d)) (first_lines first)
     ∙ ap (λ rest. line (codes "vectors " ++ decimal n) ++ (line (codes "defined " ++ decimal d) ++ rest)) (first_joined first)
 
-findings_line : (found : List Finding) → AreGraphic (flat_map finding_texts found) → list_all is_line (map finding_front found) ≡ true
-unfolding finding_front
+findings_line : (found : List Finding) → AreGraphic (flat_map finding_texts found) → list_all is_line (map finding_text found) ≡ true
 findings_line [] h = refl
 findings_line (f ∷ found) h =
     let parts = all_parts are_graphic (finding_texts f) (flat_map finding_texts found) h in
-    let first : is_line (codes "finding " ++ finding_words f) ≡ true = joined_line (codes "finding ") (finding_words f) refl (finding_line_of f parts.0) in
-    let rest : list_all is_line (map finding_front found) ≡ true = findings_line found parts.1 in
-    rw (first, rest) refl
+    let rest : list_all is_line (map finding_text found) ≡ true = findings_line found parts.1 in
+    rw (finding_line_of f parts.0, rest) refl
 
 found_line : (c : Comparison) → AreGraphic (told_texts c) → list_all is_line (found_front c) ≡ true
-unfolding found_front first_front finding_front
-found_line (Refused r) h =
-    let one : is_line (codes "refused " ++ reason_words r) ≡ true = joined_line (codes "refused ") (reason_words r) refl (reason_line_of r h) in
-    rw one refl
+unfolding found_front first_front
+found_line (Refused r) h = rw (reason_line_of r h) refl
 found_line (Pins found) h = findings_line found h
 found_line (Vectors n d None) h =
     let one : is_line (codes "vectors " ++ decimal n) ≡ true = joined_line (codes "vectors ") (decimal n) refl (decimal_line n) in
@@ -212,19 +193,18 @@ found_line (Vectors n d None) h =
 found_line (Vectors n d (Some f)) h =
     let one : is_line (codes "vectors " ++ decimal n) ≡ true = joined_line (codes "vectors ") (decimal n) refl (decimal_line n) in
     let two : is_line (codes "defined " ++ decimal d) ≡ true = joined_line (codes "defined ") (decimal d) refl (decimal_line d) in
-    let three : is_line (codes "finding " ++ finding_words f) ≡ true = joined_line (codes "finding ") (finding_words f) refl (finding_line_of f h) in
-    rw (one, two, three) refl
+    rw (one, two, finding_line_of f h) refl
 
 front : List ℕ
 front = codes "compare "
 
-findings_quiet : (found : List Finding) → list_all (is_quiet front) (map finding_front found) ≡ true
-unfolding front finding_front
+findings_quiet : (found : List Finding) → list_all (is_quiet front) (map finding_text found) ≡ true
+unfolding front
 findings_quiet [] = refl
 findings_quiet (f ∷ found) = findings_quiet found
 
 found_quiet : (c : Comparison) → list_all (is_quiet front) (found_front c) ≡ true
-unfolding front found_front first_front finding_front
+unfolding front found_front first_front
 found_quiet (Refused r) = refl
 found_quiet (Pins found) = findings_quiet found
 found_quiet (Vectors n d None) = refl

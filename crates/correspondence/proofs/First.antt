@@ -1,12 +1,12 @@
 -- The first row that covers.
-use Rattle.std.proofs.Common.{◌≡◌, ◌<◌, ◌≤◌, ℕ, List, Option, Some, None, inl, inr, refl, ap, arith}
+use Rattle.std.proofs.Common.{◌≡◌, ◌≤◌, ℕ, List, Option, Some, None, inl, inr, refl, ap, arith}
 use Rattle.std.specs.Prelude.{slice_get}
 use Rattle.std.proofs.lemmas.Bool.{cases_lt}
 use Rattle.tern_core.specs.declared.tern.Tern.{Tern}
 use Rattle.tern_core.specs.Order.{AreAtMost}
 use Rattle.tern_core.proofs.Lists.{all_same, all_through}
 use Rattle.table_source.specs.declared.Row.{Row}
-use Rattle.correspondence.specs.Cover.{Covers, CoversFirst, IsFirstCover, IsAtOrBefore}
+use Rattle.correspondence.specs.Cover.{Covers, IsFirstCover, IsAtOrBefore}
 
 pub more_known : (row : Row) (pins liberty udps nodes more : List Tern) → AreAtMost nodes more → Covers row pins liberty udps nodes → Covers row pins liberty udps more
 more_known row pins liberty udps nodes more up h = record {

@@ -1,15 +1,14 @@
 -- What an index finds.
 use Rattle.std.proofs.Common.{◌≡◌, ◌+◌, ◌<◌, ◌≤◌, ℕ, true, false, List, length, slice_index_or, Some, inl, inr, refl, sym, subst, ◌∙◌, arith}
-use Rattle.std.specs.Prelude.{All, Contains, IsSorted, slice_get}
-use Rattle.std.specs.Ordering.{nat_cmp, is_lt, is_ne}
-use Rattle.std.specs.Cmp.Lexicographic.{slice_cmp}
+use Rattle.std.specs.Prelude.{IsSorted, slice_get}
+use Rattle.std.specs.Ordering.{is_lt, is_ne}
 use Rattle.std.specs.List.Sorted.{IsPartitionPoint}
 use Rattle.std.proofs.lemmas.Bool.{cases_lt}
 use Rattle.std.proofs.lemmas.Option.{get_or_from_slice_get, slice_get_read, slice_get_within}
 use Rattle.tern_core.specs.declared.tern.Tern.{Tern}
 use Rattle.table_source.specs.declared.Row.{Row}
 use Rattle.correspondence.specs.Cover.{Covers, CoversFirst, NoneCovers}
-use Rattle.correspondence.specs.Index.{AreEntriesOf, IsEntryOf, IsFirstAt, entry_cmp, key}
+use Rattle.correspondence.specs.Index.{AreEntriesOf, IsEntryOf, IsFirstAt, Pair, entry_cmp, key, key_cmp, key_of}
 use Rattle.correspondence.specs.declared.entry.Entry.{Entry}
 use Rattle.correspondence.proofs.Orders.{later, not_below, not_behind, not_earlier}
 
@@ -23,15 +22,15 @@ not_here rows pins liberty udps nodes e row at not r rt h =
     let same : r ≡ row = cc in
     not (subst (λ x. Covers x pins liberty udps nodes) same h)
 
-pub first_from_cut : (entries : List Entry) (words : List ℕ) (i : ℕ) → i ≤ length entries
-    → IsPartitionPoint (λ (e : Entry). is_lt (slice_cmp nat_cmp e.words.items words) ≡ true) (λ (e : Entry). is_lt (slice_cmp nat_cmp e.words.items words) ≡ false) entries i
+pub first_from_cut : (entries : List Entry) (words : Pair) (i : ℕ) → i ≤ length entries
+    → IsPartitionPoint (λ (e : Entry). is_lt (key_cmp (key_of e) words) ≡ true) (λ (e : Entry). is_lt (key_cmp (key_of e) words) ≡ false) entries i
     → IsFirstAt entries words i
 first_from_cut entries words i le cut = record {
   within = le;
   below = λ j e lt at.
-      subst (λ (x : Entry). is_lt (slice_cmp nat_cmp x.words.items words) ≡ true) (get_or_from_slice_get entries j e e at) (cut.0 j e (omega arith) lt);
+      subst (λ (x : Entry). is_lt (key_cmp (key_of x) words) ≡ true) (get_or_from_slice_get entries j e e at) (cut.0 j e (omega arith) lt);
   others = λ j e ge at.
-      subst (λ (x : Entry). is_lt (slice_cmp nat_cmp x.words.items words) ≡ false) (get_or_from_slice_get entries j e e at) (cut.1 j e ge (slice_get_within entries j e at));
+      subst (λ (x : Entry). is_lt (key_cmp (key_of x) words) ≡ false) (get_or_from_slice_get entries j e e at) (cut.1 j e ge (slice_get_within entries j e at));
 }
 
 -- an entry of a row, and its place
@@ -64,7 +63,7 @@ module _ (rows : List Row) (entries : List Entry) (are : AreEntriesOf rows entri
 
   module _ (up : IsSorted entry_cmp entries) (pins liberty udps nodes : List Tern) where
     -- an entry whose row covers has the key of these words
-    pub same_key : (j : ℕ) (e : Entry) (row : Row) → slice_get entries j ≡ Some e → slice_get rows e.row ≡ Some row → Covers row pins liberty udps nodes → e.words.items ≡ key pins liberty udps
+    pub same_key : (j : ℕ) (e : Entry) (row : Row) → slice_get entries j ≡ Some e → slice_get rows e.row ≡ Some row → Covers row pins liberty udps nodes → key_of e ≡ key pins liberty udps
     same_key j e row at in_rows h =
         let o = own_at j e at in
         let same : o.row ≡ row = (let f = o.at_place in cc) in
@@ -72,11 +71,11 @@ module _ (rows : List Row) (entries : List Entry) (are : AreEntriesOf rows entri
         let p = k.same_pins in
         let l = k.same_liberty in
         let u = k.same_udps in
-        o.words ∙ rw (p, l, u) refl
+        o.own ∙ rw (p, l, u) refl
 
-    pub below_covers_not : (j : ℕ) (e : Entry) → slice_get entries j ≡ Some e → is_lt (slice_cmp nat_cmp e.words.items (key pins liberty udps)) ≡ true
+    pub below_covers_not : (j : ℕ) (e : Entry) → slice_get entries j ≡ Some e → is_lt (key_cmp (key_of e) (key pins liberty udps)) ≡ true
         → EntryCoversNot rows pins liberty udps nodes e
-    below_covers_not j e at lt row in_rows h = not_below e.words.items (key pins liberty udps) (same_key j e row at in_rows h) lt
+    below_covers_not j e at lt row in_rows h = not_below (key_of e) (key pins liberty udps) (same_key j e row at in_rows h) lt
 
     far : (i j : ℕ) (a b : Entry) → slice_get entries i ≡ Some a → slice_get entries j ≡ Some b → i ≤ j → is_lt (entry_cmp b a) ≡ false
     far i j a b at bt le =
@@ -93,8 +92,8 @@ module _ (rows : List Row) (entries : List Entry) (are : AreEntriesOf rows entri
         let w = e.within in
         none e.place e.entry (omega arith) e.at_place row e.has_row h
 
-    pub none_above : (i : ℕ) (a : Entry) → slice_get entries i ≡ Some a → NoneBefore i → is_lt (slice_cmp nat_cmp a.words.items (key pins liberty udps)) ≡ false
-        → is_ne (slice_cmp nat_cmp a.words.items (key pins liberty udps)) ≡ true → NoneCovers rows pins liberty udps nodes
+    pub none_above : (i : ℕ) (a : Entry) → slice_get entries i ≡ Some a → NoneBefore i → is_lt (key_cmp (key_of a) (key pins liberty udps)) ≡ false
+        → is_ne (key_cmp (key_of a) (key pins liberty udps)) ≡ true → NoneCovers rows pins liberty udps nodes
     none_above i a at none not ne j row in_rows h =
         let e = entry_at j row in_rows in
         elim (cases_lt e.place i) [

@@ -9,3 +9,5 @@ pub mod Taking
 pub mod Adding
 pub mod Simple
 pub mod Follows
+pub mod Ascending
+pub mod Lawful

@@ -9,11 +9,14 @@ use Rattle.std.specs.declared.cmp.Ordering.{Ordering}
 use Rattle.std.specs.declared.cmp.Ordering.TheVariants.{Less, Equal, Greater}
 use Rattle.std.proofs.lemmas.Cmp.{tied_itself}
 use Rattle.std.proofs.lemmas.List.Sorted.{ranks_by, sorted_far}
-use Rattle.correspondence.specs.Index.{entry_cmp}
+use Rattle.correspondence.specs.Index.{Pair, entry_cmp, key_cmp, key_of}
 use Rattle.correspondence.specs.declared.entry.Entry.{Entry}
 
+key_total : IsTotalOrder key_cmp
+key_total = then_total (on_total (λ (k : Pair). k.0) nat_cmp_total) (on_total (λ (k : Pair). k.1) nat_list_cmp_total)
+
 entry_total : IsTotalOrder entry_cmp
-entry_total = then_total (on_total (λ (e : Entry). e.words.items) nat_list_cmp_total) (on_total (λ (e : Entry). e.row) nat_cmp_total)
+entry_total = then_total (on_total key_of key_total) (on_total (λ (e : Entry). e.row) nat_cmp_total)
 
 entries_order : IsStrictWeakOrder (λ x y. is_lt (entry_cmp x y))
 entries_order = ranks_by entry_total (λ (e : Entry). e)
@@ -56,27 +59,27 @@ module _ {K : Type 0} {R : K → K → Ordering} (o : IsTotalOrder R) where
       cc
 
 -- the entries whose keys are below a key stand before the others
-pub partitioned : (xs : List Entry) (q : List ℕ) → IsSorted entry_cmp xs → IsPartitionedBy (λ e. is_lt (slice_cmp nat_cmp e.words.items q)) xs
+pub partitioned : (xs : List Entry) (q : Pair) → IsSorted entry_cmp xs → IsPartitionedBy (λ e. is_lt (key_cmp (key_of e) q)) xs
 partitioned xs q up i j d le lt h =
-    ap is_lt (below_by nat_list_cmp_total _ _ _ _ q refl (later xs i j d up le lt) (less _ h))
+    ap is_lt (below_by key_total _ _ _ _ q refl (later xs i j d up le lt) (less _ h))
 
 -- a key is not below itself
-pub not_below : (words q : List ℕ) → words ≡ q → is_lt (slice_cmp nat_cmp words q) ≡ true → ⊥
-not_below words q e h = itself nat_list_cmp_total q (subst (λ w. is_lt (slice_cmp nat_cmp w q) ≡ true) e h)
+pub not_below : (words q : Pair) → words ≡ q → is_lt (key_cmp words q) ≡ true → ⊥
+not_below words q e h = itself key_total q (subst (λ w. is_lt (key_cmp w q) ≡ true) e h)
 
 -- behind an entry that is above a key there is none that has it
-pub not_behind : (a b : Entry) (q : List ℕ) → is_lt (slice_cmp nat_cmp a.words.items q) ≡ false → is_ne (slice_cmp nat_cmp a.words.items q) ≡ true
-    → is_lt (entry_cmp b a) ≡ false → b.words.items ≡ q → ⊥
+pub not_behind : (a b : Entry) (q : Pair) → is_lt (key_cmp (key_of a) q) ≡ false → is_ne (key_cmp (key_of a) q) ≡ true
+    → is_lt (entry_cmp b a) ≡ false → key_of b ≡ q → ⊥
 not_behind a b q h n far e =
-    above nat_list_cmp_total (nat_cmp b.row a.row) a.words.items q h n
-    (subst (λ w. is_lt (ordering_then (slice_cmp nat_cmp w a.words.items) (nat_cmp b.row a.row)) ≡ false) e far)
+    above key_total (nat_cmp b.row a.row) (key_of a) q h n
+    (subst (λ w. is_lt (ordering_then (key_cmp w (key_of a)) (nat_cmp b.row a.row)) ≡ false) e far)
 
 -- behind an entry there is none that has its key and an earlier row
-pub not_earlier : (a b : Entry) (q : List ℕ) → a.words.items ≡ q → b.words.items ≡ q → is_lt (entry_cmp b a) ≡ false → b.row < a.row → ⊥
+pub not_earlier : (a b : Entry) (q : Pair) → key_of a ≡ q → key_of b ≡ q → is_lt (entry_cmp b a) ≡ false → b.row < a.row → ⊥
 not_earlier a b q e f far lt =
-    at_equal nat_list_cmp_total q b.row a.row
-    (subst (λ v. is_lt (ordering_then (slice_cmp nat_cmp q v) (nat_cmp b.row a.row)) ≡ false) e
-    (subst (λ w. is_lt (ordering_then (slice_cmp nat_cmp w a.words.items) (nat_cmp b.row a.row)) ≡ false) f far)) lt
+    at_equal key_total q b.row a.row
+    (subst (λ v. is_lt (ordering_then (key_cmp q v) (nat_cmp b.row a.row)) ≡ false) e
+    (subst (λ w. is_lt (ordering_then (key_cmp w (key_of a)) (nat_cmp b.row a.row)) ≡ false) f far)) lt
 
 -- a key of which nothing is left, and one of which something is
 pub at_end : (words : List ℕ) → length words < 1 → slice_cmp nat_cmp words [] ≡ Equal

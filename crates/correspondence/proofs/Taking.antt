@@ -1,5 +1,5 @@
 -- Reading the values of words one after the other.
-use Rattle.std.proofs.Common.{◌≡◌, ℕ, List, Option, Some, None, Result, Ok, Err, refl, sym, ap, ◌∙◌}
+use Rattle.std.proofs.Common.{◌≡◌, ℕ, List, Option, Result, Ok, Err, refl, sym, ap, ◌∙◌}
 use Rattle.text_scan.specs.declared.token.Token.{Token}
 use Rattle.text_scan.specs.declared.refusal.FileRefusal.{FileRefusal}
 use Rattle.text_scan.specs.declared.refusal.FileRefusal.TheVariants as refusals
@@ -9,7 +9,7 @@ use Rattle.tern_core.specs.declared.tern.Tern.{Tern}
 use Rattle.table_source.specs.declared.Row.{Row}
 use Rattle.correspondence.specs.Lines.{PlacedWord}
 use Rattle.correspondence.specs.Words.{more_refusal, next_values, row_of, two_values, unless}
-use Rattle.correspondence.specs.Steps.{Took, Unless}
+use Rattle.correspondence.specs.Steps.{Took}
 
 -- what is refused stays refused
 

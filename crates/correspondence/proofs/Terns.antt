@@ -1,5 +1,5 @@
 -- Lists of values that are tested for equality.
-use Rattle.std.proofs.Common.{◌≡◌, Bool, true, List, refl}
+use Rattle.std.proofs.Common.{◌≡◌, Bool, List, refl}
 use Rattle.std.specs.Bool.{Decides}
 use Rattle.std.specs.Cmp.Lexicographic.{pointwise}
 use Rattle.std.proofs.lemmas.Slice.Eq.{slice_eq-Decides}

@@ -4,7 +4,6 @@ use Rattle.text_scan.specs.Tokens.{after, start}
 use Rattle.text_scan.specs.declared.limits.Limits.{Limits}
 use Rattle.text_scan.specs.declared.refusal.FileRefusal.{FileRefusal}
 use Rattle.text_scan.specs.declared.refusal.FileRefusal.TheVariants as refusals
-use Rattle.file_rules.specs.Refusals.{at_token}
 use Rattle.file_rules.specs.Told.{Agrees}
 use Rattle.grammar.specs.Rule.{Rule, none, one, seq, alt, many}
 use Rattle.grammar.specs.Reading.{Stop, syntax, refusal}

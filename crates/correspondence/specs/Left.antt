@@ -1,5 +1,5 @@
 -- What a reader of lines has before it.
-use Rattle.std.specs.Prelude.{◌≡◌, ℕ, Bool, true, false, if◌then◌else◌, List, [], ◌∷◌}
+use Rattle.std.specs.Prelude.{◌≡◌, true, if◌then◌else◌, List, [], ◌∷◌}
 use Rattle.text_scan.specs.Left.{left}
 use Rattle.text_scan.specs.declared.token.Token.{Token}
 use Rattle.correspondence.specs.Lines.{PlacedWord, Line, ends_line, kept, lines}

@@ -8,7 +8,7 @@ ghost use Rattle.correspondence.specs.Index as spec;
 ghost use Rattle.correspondence.specs.declared.entry.Entry.{Entry as EntryData};
 
 use crate::covering::covers;
-use crate::entry::Entry;
+use crate::entry::{Entry, Key};
 use crate::index::RowIndex;
 use std::alloc::Global;
 use std::cmp::Ordering;
@@ -26,12 +26,57 @@ fn code(value: Tern) -> u8
     }
 }
 
-// The key of these words.
-fn key(alloc: Global, pins: &[Tern], liberty: &[Tern], udps: &[Tern]) -> Result<Vec<u8>, NoMemory>
-    ensures { IfOk result (λ words. words.items ≡ spec.key pins.now liberty.now udps.now) }
+// The number of some values and one more. From 2^55 on it stays, so that it never grows too large.
+#[tactic(auto, unfolding(crate::specs::Index::with_value))]
+fn with_value(front: u64, value: Tern) -> u64
+    ensures { result ≡ spec.with_value front value }
+{
+    if front < 36_028_797_018_963_968 {
+        front * 4 + u64::from(code(value))
+    } else {
+        front
+    }
+}
+
+fn front_from(front: u64, word: &[Tern]) -> u64
+    ensures { result ≡ spec.front_from front word.now }
+{
+    word.iter()
+        .fold(front, |front, value| with_value(front, *value))
+}
+
+fn front(pins: &[Tern], liberty: &[Tern], udps: &[Tern]) -> u64
+    ensures { result ≡ spec.front pins.now liberty.now udps.now }
+{
+    front_from(front_from(front_from(0, pins), liberty), udps)
+}
+
+// These words, one behind the other.
+fn joined(
+    alloc: Global,
+    pins: &[Tern],
+    liberty: &[Tern],
+    udps: &[Tern],
+) -> Result<Vec<u8>, NoMemory>
+    ensures { IfOk result (λ words. words.items ≡ spec.words pins.now liberty.now udps.now) }
 {
     let values = pins.iter().chain(liberty.iter().chain(udps.iter()));
     Ok(values.map(|value| code(*value)).collect(alloc)?)
+}
+
+fn entry_of(alloc: Global, row: &Row, place: usize) -> Result<Entry, NoMemory>
+    ensures { IfOk result (λ entry. spec.IsOf row.now place entry) }
+{
+    let (pins, liberty, udps) = (
+        row.pins.as_slice(),
+        row.liberty.as_slice(),
+        row.udps.as_slice(),
+    );
+    let key = Key {
+        front: front(pins, liberty, udps),
+        words: joined(alloc, pins, liberty, udps)?,
+    };
+    Ok(Entry { key, row: place })
 }
 
 // The entries of rows, in the order of these.
@@ -40,14 +85,8 @@ fn entries_of(alloc: Global, rows: &[Row]) -> Result<Vec<Entry>, NoMemory>
 {
     let mut entries = Vec::with_capacity(alloc, rows.len())?;
     for i in 0..rows.len() {
-        let row = &rows[i];
-        let words = key(
-            alloc,
-            row.pins.as_slice(),
-            row.liberty.as_slice(),
-            row.udps.as_slice(),
-        )?;
-        entries.push(Entry { words, row: i })?;
+        let entry = entry_of(alloc, &rows[i], i)?;
+        entries.push(entry)?;
     }
     Ok(entries)
 }
@@ -71,9 +110,9 @@ fn behind_word<'a>(words: &'a [u8], word: &[Tern]) -> Result<&'a [u8], Ordering>
     Ok(rest)
 }
 
-// How an entry's key stands to the key of these words.
-fn compare(words: &[u8], pins: &[Tern], liberty: &[Tern], udps: &[Tern]) -> Ordering
-    ensures { result ≡ slice_cmp nat_cmp words.now (spec.key pins.now liberty.now udps.now) }
+// How a key's words stand to these.
+fn compare_words(words: &[u8], pins: &[Tern], liberty: &[Tern], udps: &[Tern]) -> Ordering
+    ensures { result ≡ slice_cmp nat_cmp words.now (spec.words pins.now liberty.now udps.now) }
 {
     match behind_word(words, pins) {
         Err(order) => order,
@@ -88,6 +127,18 @@ fn compare(words: &[u8], pins: &[Tern], liberty: &[Tern], udps: &[Tern]) -> Orde
     }
 }
 
+impl Key {
+    // How the key stands to that of these words, whose number is the front.
+    fn compare(&self, front: u64, pins: &[Tern], liberty: &[Tern], udps: &[Tern]) -> Ordering
+        ensures { result ≡ spec.key_cmp (spec.pair_of self.now) (front, spec.words pins.now liberty.now udps.now) }
+    {
+        match self.front.cmp(&front) {
+            Ordering::Equal => compare_words(&self.words, pins, liberty, udps),
+            order => order,
+        }
+    }
+}
+
 impl RowIndex {
     /// The index of this table's rows.
     pub fn new(alloc: Global, table: &Table) -> Result<RowIndex, NoMemory>
@@ -98,14 +149,15 @@ impl RowIndex {
         Ok(RowIndex { entries })
     }
 
-    // The place of the first entry whose key isn't below that of these words.
-    fn first_at(&self, pins: &[Tern], liberty: &[Tern], udps: &[Tern]) -> usize
+    // The place of the first entry whose key isn't below that of these words, whose number is the front.
+    fn first_at(&self, front: u64, pins: &[Tern], liberty: &[Tern], udps: &[Tern]) -> usize
         requires { spec.IsSortedIndex self.now }
-        ensures { spec.IsFirstAt self.now.entries.items (spec.key pins.now liberty.now udps.now) result }
+        ensures { spec.IsFirstAt self.now.entries.items (front, spec.words pins.now liberty.now udps.now) result }
     {
-        self.entries
-            .as_slice()
-            .partition_point(|entry| compare(&entry.words, pins, liberty, udps).is_lt())
+        self.entries.as_slice().partition_point(|entry| entry
+            .key
+            .compare(front, pins, liberty, udps)
+            .is_lt())
     }
 
     /// The place of the table's first row that covers these values, as `cover` tells it, for an index of this table. Takes no
@@ -122,9 +174,10 @@ impl RowIndex {
         ensures { IsFirstCover table.now.rows pins.now liberty.now udps.now nodes.now result }
     {
         let rows = table.rows.as_slice();
-        for i in self.first_at(pins, liberty, udps)..self.entries.len() {
+        let front = front(pins, liberty, udps);
+        for i in self.first_at(front, pins, liberty, udps)..self.entries.len() {
             let entry = &self.entries[i];
-            if compare(&entry.words, pins, liberty, udps).is_ne() {
+            if entry.key.compare(front, pins, liberty, udps).is_ne() {
                 return None;
             }
             if covers(&rows[entry.row], pins, liberty, udps, nodes) {

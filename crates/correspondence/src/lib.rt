@@ -23,3 +23,6 @@ pub use covering::cover;
 pub use index::RowIndex;
 pub use public_call::read_tables;
 pub use table_source::{Row, Table, Tables};
+
+#[cfg(test)]
+mod tests;

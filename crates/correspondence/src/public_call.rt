@@ -1,10 +1,11 @@
 //! The public call.
-ghost use Rattle.std.specs.Prelude.{◌≡◌, []};
+ghost use Rattle.std.specs.Prelude.{◌≡◌, [], IfOk};
 ghost use Rattle.grammar.specs.Answers.{IsAnswer, read_all};
 ghost use Rattle.file_rules.specs.Told.{Agrees};
 ghost use Rattle.correspondence.specs.Grammar.{Answer, IsAnswered, at_first, tables, told};
 ghost use Rattle.correspondence.specs.Lines.{lines_of};
 ghost use Rattle.correspondence.specs.Parts.{nothing};
+ghost use Rattle.table_source.specs.Tables.{IsTables};
 
 use crate::kinds::LineKind;
 use crate::lines::Lines;
@@ -58,6 +59,8 @@ pub fn read_tables(alloc: Global, text: &[u8], limits: &Limits) -> Result<Tables
     ensures answered { IsAnswered text.now limits.now result }
     // No other answer is there: whatever the grammar gives the text is told.
     ensures only { (o : Answer) → IsAnswer (tables limits.now) nothing (lines_of text.now) o → Agrees result (told text.now o) }
+    // Tables that are read have names, each cell once, and lines in their order.
+    ensures kept { IfOk result (λ tables. IsTables limits.now tables) }
 {
     read_lines(alloc, text, limits)
 }

@@ -41,7 +41,11 @@ fn are_values(bytes: &[u8]) -> bool
 fn value_list(alloc: Global, bytes: &[u8]) -> Result<Vec<Tern>, NoMemory>
     ensures { IfOk result (λ values. values.items ≡ spec.made_values bytes.now) }
 {
-    Ok(bytes.iter().map(|byte| value_of(*byte)).collect(alloc)?)
+    let mut values = Vec::with_capacity(alloc, bytes.len())?;
+    for byte in bytes {
+        values.push(value_of(*byte))?;
+    }
+    Ok(values)
 }
 
 // The values that a word tells.

@@ -9,3 +9,6 @@ pub mod FirstAnswers
 pub mod OneAnswer
 pub mod Public
 pub mod TurnsLead
+mod Keeps
+mod MacroKept
+pub mod Lawful

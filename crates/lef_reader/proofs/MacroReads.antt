@@ -1,5 +1,5 @@
 -- What is read of macros.
-use Rattle.std.proofs.Common.{◌≡◌, ℕ, Bool, true, false, List, [], ◌∷◌, Option, Some, None, Result, Ok, Err, refl, sym, ap, subst, ◌∙◌}
+use Rattle.std.proofs.Common.{◌≡◌, ℕ, true, false, List, [], ◌∷◌, Option, None, Result, Ok, Err, refl, sym, ap, subst, ◌∙◌}
 use Rattle.text_scan.specs.declared.limits.Limits.{Limits}
 use Rattle.text_scan.specs.declared.token.Token.{Token}
 use Rattle.grammar.specs.Reading.{syntax, refusal, read}
@@ -7,15 +7,15 @@ use Rattle.lef_reader.specs.declared.extent.Extent.{Extent}
 use Rattle.lef_reader.specs.declared.halt.Halt.{Halt}
 use Rattle.lef_reader.specs.declared.halt.Halt.TheVariants as halts
 use Rattle.lef_reader.specs.declared.halt.Refusal.TheVariants as refusals
-use Rattle.lef_reader.specs.declared.look.Look.{Look}
-use Rattle.lef_reader.specs.declared.look.Look.TheVariants as looks
+use Rattle.lef_tokens.specs.declared.look.Look.{Look}
+use Rattle.lef_tokens.specs.declared.look.Look.TheVariants as looks
 use Rattle.lef_reader.specs.declared.macro_text.MacroText.{MacroText}
 use Rattle.lef_reader.specs.declared.until.Until.TheVariants as untils
-use Rattle.lef_reader.specs.Looks.{look_of, is_end, is_statement, is_macro_plain}
+use Rattle.lef_tokens.specs.Looks.{look_of, is_end, is_statement, is_macro_plain}
 use Rattle.lef_reader.specs.Passing.{extended, passed}
 use Rattle.lef_reader.specs.MacroActions.{end_macro}
 use Rattle.lef_reader.specs.MacroGrammar.{rest_to, rest_from, semicolon, shapes, size_rest, size, macro_statement, macro_end, pin, item}
-use Rattle.lef_reader.specs.Steps.{Passes, EndsName, Halts, Gives}
+use Rattle.lef_reader.specs.Steps.{Passes, EndsName, Gives}
 use Rattle.lef_reader.proofs.Skipped.{kept_read, keeping}
 
 -- another statement of a macro

@@ -1,27 +1,22 @@
 -- What is read outside macros.
-use Rattle.std.proofs.Common.{◌≡◌, ◌<◌, ◌≤◌, ℕ, Bool, true, false, ◌||◌, ◌&&◌, List, [], ◌∷◌, length, Option, Some, None, Result, Ok, Err, refl, sym, ap, subst, ◌∙◌, arith}
+use Rattle.std.proofs.Common.{◌≡◌, ◌<◌, ◌≤◌, ℕ, true, false, List, ◌∷◌, length, None, Result, Ok, Err, refl, sym, ap, subst, ◌∙◌, arith}
 use Rattle.std.specs.Prelude.{nat_le}
 use Rattle.text_scan.specs.declared.limits.Limits.{Limits}
 use Rattle.text_scan.specs.declared.token.Token.{Token}
-use Rattle.text_scan.specs.Left.{is_end as is_the_end}
 use Rattle.name_index.specs.Places.{is_known}
 use Rattle.file_rules.specs.Names.{is_too_long}
-use Rattle.grammar.specs.Rule.{Rule, one}
 use Rattle.grammar.specs.Reading.{syntax, refusal, read}
 use Rattle.lef_reader.specs.declared.halt.Halt.{Halt}
 use Rattle.lef_reader.specs.declared.halt.Halt.TheVariants as halts
-use Rattle.lef_reader.specs.declared.halt.Refusal.{Refusal}
 use Rattle.lef_reader.specs.declared.halt.Refusal.TheVariants as refusals
-use Rattle.lef_reader.specs.declared.look.Look.{Look}
-use Rattle.lef_reader.specs.declared.look.Look.TheVariants as looks
+use Rattle.lef_tokens.specs.declared.look.Look.{Look}
+use Rattle.lef_tokens.specs.declared.look.Look.TheVariants as looks
 use Rattle.lef_reader.specs.declared.lef_text.LefText.{LefText}
 use Rattle.lef_reader.specs.declared.until.Until.TheVariants as untils
 use Rattle.lef_reader.specs.declared.until.Closing.TheVariants as closings
-use Rattle.lef_reader.specs.declared.until.Opened.{Opened}
 use Rattle.lef_reader.specs.declared.until.Opened.TheVariants as openings
-use Rattle.lef_reader.specs.Looks.{text, look_of, not, is_end, is_plain, is_library, is_over, is_passed, can_name}
+use Rattle.lef_tokens.specs.Looks.{text, look_of, is_plain, is_library, is_over, is_passed, can_name}
 use Rattle.lef_reader.specs.Passing.{passed, dropped, past_statement}
-use Rattle.lef_reader.specs.MacroGrammar.{rest_to, rest_from}
 use Rattle.lef_reader.specs.OutsideGrammar.{open_section, count_macro, open_macro, statement, extension, block, ending_rest, ending, section_rest, section, macro_name, title, begun, outside}
 use Rattle.lef_reader.specs.Steps.{IsBehind, Halts, Finds}
 use Rattle.lef_reader.proofs.Skipped.{Read, behind_read, rest_read, statement_read}

@@ -1,5 +1,5 @@
 -- Going over tokens.
-use Rattle.std.proofs.Common.{◌≡◌, ℕ, Bool, true, false, ◌&&◌, List, [], ◌∷◌, Option, Result, Ok, Err, refl, sym, ap, subst, ◌∙◌}
+use Rattle.std.proofs.Common.{◌≡◌, ℕ, Bool, true, false, ◌&&◌, List, ◌∷◌, Option, Ok, Err, refl, sym, ap, subst, ◌∙◌}
 use Rattle.text_scan.specs.declared.token.Kind.{Kind}
 use Rattle.text_scan.specs.declared.token.Kind.TheVariants as kinds
 use Rattle.text_scan.specs.declared.token.Token.{Token}
@@ -8,10 +8,10 @@ use Rattle.lef_reader.specs.declared.extent.Extent.{Extent}
 use Rattle.lef_reader.specs.declared.tokens.Tokens.{Tokens}
 use Rattle.lef_reader.specs.declared.until.Until.{Until}
 use Rattle.lef_reader.specs.declared.until.Closing.{Closing}
-use Rattle.lef_reader.specs.declared.look.Look.{Look}
-use Rattle.lef_reader.specs.declared.look.Look.TheVariants as looks
-use Rattle.lef_reader.specs.Looks.{text, look_of, is_over, is_same_word, is_word_kind, is_passed, is_passed_kind}
-use Rattle.lef_reader.specs.Looks as look_tests
+use Rattle.lef_tokens.specs.declared.look.Look.{Look}
+use Rattle.lef_tokens.specs.declared.look.Look.TheVariants as looks
+use Rattle.lef_tokens.specs.Looks.{text, look_of, is_over, is_same_word, is_word_kind, is_passed, is_passed_kind}
+use Rattle.lef_tokens.specs.Looks as look_tests
 use Rattle.lef_reader.specs.Passing.{extended, until_word, stops, passed, closes, behind}
 use Rattle.lef_reader.specs.Steps.{more, rest}
 

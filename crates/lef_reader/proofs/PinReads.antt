@@ -1,30 +1,27 @@
 -- What is read of pins.
-use Rattle.std.proofs.Common.{◌≡◌, ℕ, Bool, true, false, ◌||◌, ◌&&◌, ◌==◌, List, [], ◌∷◌, ◌++◌, length, map, codes, Option, Some, None, Result, Ok, Err, refl, sym, ap, subst, ◌∙◌}
-use Rattle.std.specs.Prelude.{if◌then◌else◌}
+use Rattle.std.proofs.Common.{◌≡◌, ℕ, Bool, true, false, ◌||◌, ◌&&◌, List, [], ◌∷◌, Option, None, Result, Ok, Err, refl, sym, ap, subst, ◌∙◌}
 use Rattle.text_scan.specs.declared.token.Token.{Token}
 use Rattle.text_scan.specs.declared.pins.Direction.{Direction}
 use Rattle.text_scan.specs.declared.pins.PinKind.{PinKind}
-use Rattle.grammar.specs.Rule.{Rule, none, one, seq, many}
-use Rattle.grammar.specs.Reading.{Stop, syntax, refusal, ◌>>=◌, read}
+use Rattle.grammar.specs.Reading.{syntax, refusal, read}
 use Rattle.lef_reader.specs.declared.extent.Extent.{Extent}
 use Rattle.lef_reader.specs.declared.halt.Halt.{Halt}
 use Rattle.lef_reader.specs.declared.halt.Halt.TheVariants as halts
-use Rattle.lef_reader.specs.declared.halt.Refusal.{Refusal}
 use Rattle.lef_reader.specs.declared.halt.Refusal.TheVariants as refusals
-use Rattle.lef_reader.specs.declared.look.Look.{Look}
-use Rattle.lef_reader.specs.declared.look.Look.TheVariants as looks
+use Rattle.lef_tokens.specs.declared.look.Look.{Look}
+use Rattle.lef_tokens.specs.declared.look.Look.TheVariants as looks
 use Rattle.lef_reader.specs.declared.macro_text.MacroText.{MacroText}
 use Rattle.lef_reader.specs.declared.until.Until.TheVariants as untils
 use Rattle.text_scan.specs.declared.limits.Limits.{Limits}
 use Rattle.text_scan.specs.Left.{is_end as is_the_end}
 use Rattle.file_rules.specs.Names.{is_name, is_too_long}
 use Rattle.lef_reader.proofs.OverTokens.{word_goes}
-use Rattle.lef_reader.specs.Looks.{text, look_of, is_end, can_name, is_statement, is_direction_word, is_use_word, is_output, is_tristate, is_pin_plain, is_over, is_passed}
+use Rattle.lef_tokens.specs.Looks.{text, look_of, is_end, can_name, is_statement, is_direction_word, is_use_word, is_output, is_tristate, is_pin_plain, is_over, is_passed}
 use Rattle.lef_reader.specs.Passing.{extended, passed, is_name_of}
 use Rattle.lef_reader.specs.MacroActions.{direction_of, set_direction, kind_of, set_kind, with_port, with_pin, end_pin, name_pin}
-use Rattle.lef_reader.specs.MacroGrammar.{MacroRule, semicolon, rest_from, direction_end, direction, use_statement, port_rest, port, pin_statement, pin_item, pin_end, pin_body, pin}
-use Rattle.lef_reader.specs.Steps.{Passes, EndsName, Does, Halts, Gives}
-use Rattle.lef_reader.proofs.Skipped.{Read, kept_read, keeping}
+use Rattle.lef_reader.specs.MacroGrammar.{semicolon, rest_from, direction_end, direction, use_statement, port_rest, port, pin_statement, pin_item, pin_end, pin_body, pin}
+use Rattle.lef_reader.specs.Steps.{Passes, EndsName, Does, Halts}
+use Rattle.lef_reader.proofs.Skipped.{kept_read, keeping}
 
 pub statement_goes : (l : Look) → is_statement l ≡ true → is_over l ≡ false
 statement_goes looks.Over h = absurd cc

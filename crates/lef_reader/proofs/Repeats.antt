@@ -1,8 +1,8 @@
 -- Repetitions.
-use Rattle.std.proofs.Common.{◌≡◌, ◌<◌, ℕ, Bool, true, false, List, [], ◌∷◌, length, Result, Ok, Err, refl, sym, ap, subst, ◌∙◌}
+use Rattle.std.proofs.Common.{◌≡◌, ◌<◌, ℕ, Bool, true, false, List, ◌∷◌, length, Result, Ok, refl, sym, ap, subst, ◌∙◌}
 use Rattle.text_scan.specs.declared.token.Token.{Token}
 use Rattle.grammar.specs.Rule.{Rule, seq, many}
-use Rattle.grammar.specs.Reading.{Stop, short, begins, ◌>>=◌, read, IsSimple}
+use Rattle.grammar.specs.Reading.{short, begins, ◌>>=◌, read, IsSimple}
 use Rattle.grammar.proofs.Stops.{many_turn, many_end}
 use Rattle.grammar.proofs.Tells.{Tells, shorter, tells}
 use Rattle.lef_reader.specs.declared.halt.Halt.{Halt}

@@ -1,26 +1,22 @@
 -- One token of look-ahead is enough.
-use Rattle.std.proofs.Common.{◌≡◌, ℕ, Bool, true, false, ◌||◌, ◌&&◌, List, [], ◌∷◌, length, map, refl, sym, ap, subst, ◌∙◌, arith}
-use Rattle.std.specs.Char.{to_ascii_lowercase}
-use Rattle.std.specs.Str.{bytes_eq}
+use Rattle.std.proofs.Common.{◌≡◌, ℕ, Bool, true, false, ◌||◌, ◌&&◌, List, [], ◌∷◌, length, refl, sym, ap, subst, ◌∙◌, arith}
 use Rattle.std.specs.Cmp.Lexicographic.{bytes_decides}
 use Rattle.text_scan.specs.declared.limits.Limits.{Limits}
 use Rattle.text_scan.specs.declared.token.Kind.{Kind}
 use Rattle.text_scan.specs.declared.token.Kind.TheVariants as kinds
 use Rattle.text_scan.specs.declared.token.Token.{Token}
-use Rattle.grammar.specs.Rule.{Rule, none, one, seq, alt, many}
-use Rattle.grammar.specs.Reading.{IsSimple, begins, nullable}
-use Rattle.lef_reader.specs.declared.halt.Refusal.{Refusal}
-use Rattle.lef_reader.specs.declared.look.Look.{Look}
-use Rattle.lef_reader.specs.declared.look.Look.TheVariants as looks
+use Rattle.grammar.specs.Reading.{IsSimple, begins}
+use Rattle.lef_tokens.specs.declared.look.Look.{Look}
+use Rattle.lef_tokens.specs.declared.look.Look.TheVariants as looks
 use Rattle.lef_reader.specs.declared.lef_text.LefText.{LefText}
 use Rattle.lef_reader.specs.declared.macro_text.MacroText.{MacroText}
 use Rattle.lef_reader.specs.declared.until.Opened.{Opened}
 use Rattle.lef_reader.specs.declared.until.Until.{Until}
 use Rattle.lef_reader.specs.declared.until.Until.TheVariants as untils
-use Rattle.lef_reader.specs.Looks.{text, look_of, kind_look, word_look, longer_look, long_look, lowered, is_same_word, is_word_kind, is_passed, not, is_statement, is_end, is_pin, is_shapes, is_size, is_direction, is_use, is_port, is_tristate, is_output, is_pin_plain, is_macro_plain, is_plain, is_extension, is_block, is_section, is_macro, is_over, is_library, can_name}
+use Rattle.lef_tokens.specs.Looks.{text, look_of, kind_look, word_look, longer_look, long_look, lowered, is_same_word, is_word_kind, is_passed, not, is_statement, is_end, is_pin, is_shapes, is_size, is_direction, is_use, is_port, is_tristate, is_output, is_pin_plain, is_macro_plain, is_plain, is_extension, is_block, is_section, is_macro, is_over, is_library, can_name}
 use Rattle.lef_reader.specs.Passing.{until_word, stops}
-use Rattle.lef_reader.specs.MacroGrammar.{MacroRule, goes_over, rest_to, rest_from, semicolon, direction_end, direction, use_statement, port_rest, port, pin_statement, pin_item, pin_end, pin_body, shapes, size_rest, size, macro_statement, macro_end, pin, item, macro_body}
-use Rattle.lef_reader.specs.OutsideGrammar.{OutsideRule, statement, extension, block, ending_rest, ending, section_rest, section, macro_name, title, begun, outside}
+use Rattle.lef_reader.specs.MacroGrammar.{goes_over, rest_to, rest_from, semicolon, direction_end, direction, use_statement, port_rest, port, pin_statement, pin_item, pin_end, pin_body, shapes, size_rest, size, macro_statement, macro_end, pin, item, macro_body}
+use Rattle.lef_reader.specs.OutsideGrammar.{statement, extension, block, ending_rest, ending, section_rest, section, macro_name, title, begun, outside}
 
 -- ---- a semicolon is no keyword
 

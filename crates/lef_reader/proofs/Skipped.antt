@@ -1,10 +1,10 @@
 -- What is read of what is passed over.
-use Rattle.std.proofs.Common.{◌≡◌, ℕ, Bool, true, false, ◌&&◌, List, [], ◌∷◌, length, Option, Some, None, Result, Ok, Err, refl, sym, ap, subst, ◌∙◌}
+use Rattle.std.proofs.Common.{◌≡◌, ℕ, Bool, true, false, ◌&&◌, List, [], ◌∷◌, Option, None, Result, Ok, Err, refl, sym, ap, subst, ◌∙◌}
 use Rattle.text_scan.specs.declared.token.Kind.{Kind}
 use Rattle.text_scan.specs.declared.token.Kind.TheVariants as kinds
 use Rattle.text_scan.specs.declared.token.Token.{Token}
 use Rattle.grammar.specs.Rule.{Rule, none, one, seq, many}
-use Rattle.grammar.specs.Reading.{Stop, syntax, refusal, ◌>>=◌, read}
+use Rattle.grammar.specs.Reading.{Stop, syntax, ◌>>=◌, read}
 use Rattle.lef_reader.specs.declared.extent.Extent.{Extent}
 use Rattle.lef_reader.specs.declared.halt.Halt.{Halt}
 use Rattle.lef_reader.specs.declared.halt.Halt.TheVariants as halts
@@ -12,10 +12,10 @@ use Rattle.lef_reader.specs.declared.halt.Refusal.{Refusal}
 use Rattle.lef_reader.specs.declared.macro_text.MacroText.{MacroText}
 use Rattle.lef_reader.specs.declared.until.Until.{Until}
 use Rattle.lef_reader.specs.declared.until.Until.TheVariants as untils
-use Rattle.lef_reader.specs.Looks.{text, is_passed, is_passed_kind, is_word_kind, is_same_word}
+use Rattle.lef_tokens.specs.Looks.{text, is_passed, is_passed_kind, is_word_kind, is_same_word}
 use Rattle.lef_reader.specs.Passing.{extended, until_word, stops, passed, dropped, past_statement, past_semicolon}
-use Rattle.lef_reader.specs.MacroGrammar.{stays, goes_over, rest_to, rest_from, semicolon}
-use Rattle.lef_reader.specs.Steps.{IsBehind, Halts, Gives, Finds}
+use Rattle.lef_reader.specs.MacroGrammar.{goes_over, rest_to, rest_from, semicolon}
+use Rattle.lef_reader.specs.Steps.{IsBehind, Halts, Gives}
 
 abbrev pub Read : Type 0 → Type 0
 Read S = Result (S × List Token) (Stop Token Refusal)

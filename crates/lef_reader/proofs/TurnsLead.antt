@@ -1,5 +1,5 @@
 -- One turn leads to what the grammar says of the file.
-use Rattle.std.proofs.Common.{◌≡◌, ◌<◌, ◌≤◌, ◌+◌, ℕ, zero, suc, Bool, true, false, ◌||◌, ◌&&◌, cond, List, [], ◌∷◌, ◌++◌, length, Result, Ok, Err, refl, sym, ap, subst, ◌∙◌, arith}
+use Rattle.std.proofs.Common.{◌≡◌, ◌<◌, ◌≤◌, ◌+◌, ℕ, zero, suc, Bool, true, false, ◌&&◌, List, [], ◌∷◌, ◌++◌, length, Result, Ok, Err, refl, sym, ap, subst, ◌∙◌, arith}
 use Rattle.std.proofs.Common.{length-append}
 use Rattle.text_scan.specs.declared.limits.Limits.{Limits}
 use Rattle.text_scan.specs.declared.refusal.FileRefusal.{FileRefusal}
@@ -21,13 +21,13 @@ use Rattle.lef_reader.specs.declared.until.Closing.TheVariants as closings
 use Rattle.lef_reader.specs.declared.until.Opened.{Opened}
 use Rattle.lef_reader.specs.declared.until.Opened.TheVariants as openings
 use Rattle.lef_reader.specs.First.{First}
-use Rattle.lef_reader.specs.Looks.{look_of, at, is_end, is_over, is_passed}
+use Rattle.lef_tokens.specs.Looks.{look_of, at, is_end, is_over, is_passed}
 use Rattle.lef_reader.specs.Passing.{behind, closes}
 use Rattle.lef_reader.specs.MacroActions.{no_macro}
 use Rattle.lef_reader.specs.MacroGrammar.{macro_end, macro_body}
 use Rattle.lef_reader.specs.OutsideGrammar.{OutsideRule, statement, extension, block, ending, section, title, begun, outside}
 use Rattle.lef_reader.specs.File.{FileAnswer, no_lef, Next, Goes, Stops, told_refusal, told_stop, goes_behind, refused_at, refused_at_end, after_macro, Then, AfterOutside}
-use Rattle.lef_reader.specs.Steps.{Halts, Finds}
+use Rattle.lef_reader.specs.Steps.{Halts}
 use Rattle.lef_reader.specs.Turning.{Leads, LeadsTo, Answers, Told}
 use Rattle.text_scan.specs.declared.token.Style.TheVariants.{Lef}
 use Rattle.text_scan.specs.Tokens.{tokens_of}

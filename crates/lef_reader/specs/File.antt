@@ -19,7 +19,7 @@ use Rattle.lef_reader.specs.declared.until.Closing.TheVariants as closings
 use Rattle.lef_reader.specs.declared.until.Opened.{Opened}
 use Rattle.lef_reader.specs.declared.until.Opened.TheVariants as openings
 use Rattle.lef_reader.specs.First.{First, IsFirst}
-use Rattle.lef_reader.specs.Looks.{text, is_passed, word_of}
+use Rattle.lef_tokens.specs.Looks.{text, is_passed, word_of}
 use Rattle.lef_reader.specs.Passing.{behind, is_name_of}
 use Rattle.lef_reader.specs.MacroActions.{no_macro, macro_of}
 use Rattle.lef_reader.specs.MacroGrammar.{macro_body}

@@ -1,4 +1,3 @@
-pub mod Looks
 pub mod Passing
 pub mod MacroActions
 pub mod MacroGrammar

@@ -1,5 +1,5 @@
 -- What the tokens of a macro leave, or why they refuse.
-use Rattle.std.specs.Prelude.{ℕ, if◌then◌else◌, List, [], ◌∷◌, ◌++◌, Option, Some, None, Result, Ok, Err}
+use Rattle.std.specs.Prelude.{ℕ, if◌then◌else◌, List, [], ◌∷◌, ◌++◌, None, Result, Ok, Err}
 use Rattle.text_scan.specs.declared.pins.Direction.{Direction}
 use Rattle.text_scan.specs.declared.pins.Direction.TheVariants as directions
 use Rattle.text_scan.specs.declared.pins.PinKind.{PinKind}
@@ -12,10 +12,10 @@ use Rattle.lef_source.specs.declared.Macro.{Macro}
 use Rattle.lef_source.specs.declared.MacroPin.{MacroPin}
 use Rattle.lef_reader.specs.declared.halt.Refusal.{Refusal}
 use Rattle.lef_reader.specs.declared.halt.Refusal.TheVariants as refusals
-use Rattle.lef_reader.specs.declared.look.Look.{Look}
-use Rattle.lef_reader.specs.declared.look.Look.TheVariants as looks
+use Rattle.lef_tokens.specs.declared.look.Look.{Look}
+use Rattle.lef_tokens.specs.declared.look.Look.TheVariants as looks
 use Rattle.lef_reader.specs.declared.macro_text.MacroText.{MacroText}
-use Rattle.lef_reader.specs.Looks.{text, look_of}
+use Rattle.lef_tokens.specs.Looks.{text, look_of}
 use Rattle.lef_reader.specs.Passing.{extended, kept_text, kept_size, is_name_of}
 
 abbrev pub Outcome : Type 0

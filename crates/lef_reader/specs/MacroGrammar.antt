@@ -7,7 +7,7 @@ use Rattle.lef_reader.specs.declared.halt.Refusal.{Refusal}
 use Rattle.lef_reader.specs.declared.macro_text.MacroText.{MacroText}
 use Rattle.lef_reader.specs.declared.until.Until.{Until}
 use Rattle.lef_reader.specs.declared.until.Until.TheVariants as untils
-use Rattle.lef_reader.specs.Looks.{look_of, not, at, is_end, is_pin, is_shapes, is_size, is_direction, is_use, is_port, is_direction_word, is_output, is_tristate, is_use_word, is_macro_plain, is_pin_plain, is_passed, can_name}
+use Rattle.lef_tokens.specs.Looks.{look_of, not, at, is_end, is_pin, is_shapes, is_size, is_direction, is_use, is_port, is_direction_word, is_output, is_tristate, is_use_word, is_macro_plain, is_pin_plain, is_passed, can_name}
 use Rattle.lef_reader.specs.Passing.{stops}
 use Rattle.lef_reader.specs.MacroActions.{keep, begin_size, grow_size, name_pin, set_direction, set_kind, begin_port, grow_port, end_port, end_pin, end_macro}
 

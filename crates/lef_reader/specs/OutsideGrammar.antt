@@ -12,7 +12,7 @@ use Rattle.lef_reader.specs.declared.until.Closing.TheVariants as closings
 use Rattle.lef_reader.specs.declared.until.Until.TheVariants as untils
 use Rattle.lef_reader.specs.declared.until.Opened.{Opened}
 use Rattle.lef_reader.specs.declared.until.Opened.TheVariants as openings
-use Rattle.lef_reader.specs.Looks.{text, look_of, not, at, is_end, is_macro, is_section, is_block, is_extension, is_library, is_over, is_plain, is_passed, can_name}
+use Rattle.lef_tokens.specs.Looks.{text, not, at, is_end, is_macro, is_section, is_block, is_extension, is_library, is_over, is_plain, is_passed, can_name}
 use Rattle.lef_reader.specs.MacroGrammar.{stays, rest_to, rest_from}
 
 abbrev pub OutsideRule : Type 0

@@ -1,8 +1,8 @@
 -- What is passed over, and what is kept of it.
-use Rattle.std.specs.Prelude.{ℕ, Bool, true, false, ◌&&◌, if◌then◌else◌, List, [], ◌∷◌, codes, slice_range, Option, Some, None, Result, Ok, Err}
+use Rattle.std.specs.Prelude.{ℕ, Bool, ◌&&◌, if◌then◌else◌, List, [], ◌∷◌, codes, slice_range, Option, Some, None, Result, Ok, Err}
 use Rattle.std.specs.Str.{bytes_eq}
 use Rattle.text_scan.specs.declared.token.Token.{Token}
-use Rattle.lef_reader.specs.Looks.{text, look_of, is_end, is_same_word, is_word_kind, is_passed}
+use Rattle.lef_tokens.specs.Looks.{text, look_of, is_end, is_same_word, is_word_kind, is_passed}
 use Rattle.lef_reader.specs.declared.extent.Extent.{Extent}
 use Rattle.lef_reader.specs.declared.until.Until.{Until}
 use Rattle.lef_reader.specs.declared.until.Until.TheVariants as untils

@@ -9,7 +9,7 @@ use Rattle.lef_reader.specs.declared.halt.Halt.TheVariants as halts
 use Rattle.lef_reader.specs.declared.halt.Refusal.{Refusal}
 use Rattle.lef_reader.specs.declared.halt.Refusal.TheVariants as refusals
 use Rattle.lef_reader.specs.declared.tokens.Tokens.{Tokens}
-use Rattle.lef_reader.specs.Looks.{is_passed}
+use Rattle.lef_tokens.specs.Looks.{is_passed}
 use Rattle.lef_reader.specs.Passing.{is_name_of}
 
 -- the tokens behind the one ahead; behind the end there are none

@@ -2,20 +2,20 @@
 ghost use Rattle.std.specs.Prelude.{◌≡◌, true};
 ghost use Rattle.grammar.specs.Rule.{many};
 ghost use Rattle.grammar.specs.Reading.{read};
-ghost use Rattle.lef_reader.specs.Looks as looks;
+ghost use Rattle.lef_tokens.specs.Looks as looks;
 ghost use Rattle.lef_reader.specs.MacroActions.{no_macro};
 ghost use Rattle.lef_reader.specs.MacroGrammar as grammar;
 ghost use Rattle.lef_reader.specs.Steps.{rest, Gives};
-ghost use Rattle.lef_reader.specs.declared.look.Look.TheVariants as look_of;
+ghost use Rattle.lef_tokens.specs.declared.look.Look.TheVariants as look_of;
 ghost use Rattle.lef_reader.specs.declared.macro_text.MacroText.{MacroText as MacroData};
 
 use crate::halt::Halt;
-use crate::look::Look;
 use crate::macro_text::MacroText;
 use crate::passing::{is_end, is_statement};
 use crate::pins::no_pin;
 use crate::tokens::Tokens;
 use crate::until::Until;
+use lef_tokens::Look;
 use name_index::Names;
 use std::alloc::Global;
 use text_scan::{Items, Limits, Text, Token};

@@ -1,19 +1,18 @@
 //! Reads what stands outside macros.
 ghost use Rattle.std.specs.Prelude.{◌≡◌, Ok, true};
 ghost use Rattle.grammar.specs.Reading.{read};
-ghost use Rattle.lef_reader.specs.Looks as looks;
+ghost use Rattle.lef_tokens.specs.Looks as looks;
 ghost use Rattle.lef_reader.specs.OutsideGrammar as grammar;
 ghost use Rattle.lef_reader.specs.Steps.{rest, Finds};
-ghost use Rattle.lef_reader.specs.declared.look.Look.TheVariants as look_of;
+ghost use Rattle.lef_tokens.specs.declared.look.Look.TheVariants as look_of;
 ghost use Rattle.lef_reader.specs.declared.until.Opened.TheVariants as openings;
 
 use crate::halt::{Halt, Refusal};
 use crate::lef_text::LefText;
-use crate::look::Look;
-use crate::names::{can_name, is_passed, text};
 use crate::tokens::Tokens;
 use crate::until::{Closing, Opened, Until};
 use file_rules::is_too_long;
+use lef_tokens::{Look, can_name, is_passed, text};
 use text_scan::Limits;
 
 fn is_library(look: Look) -> bool

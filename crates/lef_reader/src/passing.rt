@@ -3,17 +3,16 @@ ghost use Rattle.std.specs.Prelude.{◌≡◌, ◌∷◌, false, true, None, IfO
 ghost use Rattle.text_scan.specs.Left as left;
 ghost use Rattle.text_scan.specs.Tokens.{tokens_of};
 ghost use Rattle.text_scan.specs.declared.token.Style.TheVariants as styles;
-ghost use Rattle.lef_reader.specs.Looks as looks;
+ghost use Rattle.lef_tokens.specs.Looks as looks;
 ghost use Rattle.lef_reader.specs.Passing as spec;
 ghost use Rattle.lef_reader.specs.Steps.{rest, Passes, IsBehind, EndsName};
 
 use crate::extent::Extent;
 use crate::halt::{Halt, Refusal};
-use crate::look::{Look, is_same_word, look_of};
-use crate::names::{is_passed, is_word, text};
 use crate::tokens::Tokens;
 use crate::until::{Closing, Until};
 use file_rules::slice;
+use lef_tokens::{Look, is_passed, is_same_word, is_word, look_of, text};
 use std::alloc::Global;
 use text_scan::{Cursor, NoMemory, Style, Text, Token};
 

@@ -2,22 +2,21 @@
 ghost use Rattle.std.specs.Prelude.{◌≡◌, OnOk, true, List, []};
 ghost use Rattle.grammar.specs.Rule.{many};
 ghost use Rattle.grammar.specs.Reading.{read};
-ghost use Rattle.lef_reader.specs.Looks as looks;
+ghost use Rattle.lef_tokens.specs.Looks as looks;
 ghost use Rattle.lef_reader.specs.MacroActions as spec;
 ghost use Rattle.lef_reader.specs.MacroGrammar as grammar;
 ghost use Rattle.lef_reader.specs.Steps.{rest, Does, Gives};
-ghost use Rattle.lef_reader.specs.declared.look.Look.TheVariants as look_of;
+ghost use Rattle.lef_tokens.specs.declared.look.Look.TheVariants as look_of;
 ghost use Rattle.lef_reader.specs.declared.macro_text.MacroText.{MacroText as MacroData};
 
 use crate::halt::{Halt, Refusal};
-use crate::look::Look;
 use crate::macro_text::MacroText;
-use crate::names::{can_name, text};
 use crate::passing::{is_end, is_statement, kept_text};
 use crate::tokens::Tokens;
 use crate::until::Until;
 use file_rules::is_too_long;
 use lef_source::MacroPin;
+use lef_tokens::{Look, can_name, text};
 use std::alloc::Global;
 use std::mem;
 use text_scan::{Direction, Items, Limits, NoMemory, PinKind, Text, Token};
@@ -105,7 +104,8 @@ impl MacroText {
         if !is_direction_word(look) {
             return Err(Halt::Syntax);
         }
-        self.pin.direction = direction_of(look);
+        let direction = direction_of(look);
+        self.pin.direction = direction;
         tokens.shift();
         tokens.direction_end(source, is_output(look))
     }

@@ -1,8 +1,9 @@
 //! The public call.
-ghost use Rattle.std.specs.Prelude.{◌≡◌};
+ghost use Rattle.std.specs.Prelude.{◌≡◌, IfOk};
 ghost use Rattle.lef_reader.specs.File.{FileAnswer, IsLefText};
 ghost use Rattle.lef_reader.specs.Promise.{IsAnswered, lef_of, told};
 ghost use Rattle.file_rules.specs.Told.{Agrees};
+ghost use Rattle.lef_source.specs.Lef.{IsLef};
 
 use crate::file::read_file;
 use crate::lef_text::LefText;
@@ -28,6 +29,8 @@ pub fn read_lef(alloc: Global, text: &[u8], limits: &Limits) -> Result<Lef, File
     ensures answered { IsAnswered text.now limits.now result }
     // No other answer is there: whatever the grammar gives the text is told.
     ensures only { (o : FileAnswer) → IsLefText text.now limits.now o → Agrees result (told o) }
+    // What is kept has names, pins with directions and words that can be shown, and no macro and no pin twice.
+    ensures kept { IfOk result (λ lef. IsLef limits.now lef) }
 {
     match read_file(alloc, text, limits) {
         Err(refusal) => Err(refusal),

@@ -1,56 +1,36 @@
-//! Makes pin tables of a Liberty file's cells and a Verilog file's modules, and prints them and what is found in them:
-//! `pin_rows LIBERTY VERILOG CASES`.
+//! Makes the pin tables of a Liberty file's cells, a Verilog file's modules, a CDL file's subcircuits and a LEF file's
+//! macros, and prints them and what is found in them: `pin_rows LIBERTY VERILOG CDL LEF CASES`.
 //!
 //! A line of the cases has five words: the technology's supplies, and the views Liberty, Verilog, CDL and LEF. A view is a
-//! table (`table`), or `-` where it is absent. `@NAME` is the table of the file's cell or module of this name.
+//! table (`table`), or `-` where it is absent. `@NAME` is the table of what has this name in the view's file.
 #![tactic(auto)]
 
+mod sources;
 mod table;
 
 use anyhow::Result;
-use liberty_reader::{CellPart, LibertyCell, Library, read_library};
-use pin_tables::{FourViews, PinTable, liberty_pins, module_pins, pin_findings};
+use pin_tables::{
+    FourViews, PinTable, liberty_pins, macro_pins, module_pins, pin_findings, subcircuit_pins,
+};
+use sources::{Sources, Texts};
 use std::alloc::{Alloc, AllocError, Global};
 use std::io::Print;
 use std::{env, fs};
 use table::{said_of, supplies_of, table_of};
-use text_scan::{Limits, NoMemory};
-use verdict_text::write_finding;
-use verilog_reader::{Module, ModulePart, Source, read_source};
-
-fn cell_of<'a>(library: &'a Library, name: &[u8]) -> Option<&'a LibertyCell> {
-    for part in library.cells.as_slice() {
-        if let CellPart::Whole(cell) = part {
-            if cell.name.as_bytes() == name {
-                return Some(cell);
-            }
-        }
-    }
-    None
-}
-
-fn module_of<'a>(source: &'a Source, name: &[u8]) -> Option<&'a Module> {
-    for part in source.modules.as_slice() {
-        if let ModulePart::Whole(module) = part {
-            if module.name.as_bytes() == name {
-                return Some(module);
-            }
-        }
-    }
-    None
-}
+use text_scan::NoMemory;
+use verdict_text::{View, write_finding};
 
 /// Liberty's table; none where the library lacks the cell.
 fn liberty_of(
     alloc: Global,
-    library: &Library,
+    sources: &Sources,
     supplies: &str,
     word: &str,
 ) -> Result<Option<PinTable>, NoMemory> {
     let Some(name) = word.strip_prefix("@") else {
         return Ok(Some(table_of(alloc, word)?));
     };
-    match cell_of(library, name.as_bytes()) {
+    match sources.cell(name) {
         Some(cell) => {
             let supplies = supplies_of(alloc, supplies)?;
             Ok(Some(liberty_pins(alloc, cell, &supplies)?))
@@ -59,40 +39,71 @@ fn liberty_of(
     }
 }
 
-/// Another view's table; none where it is absent, or the source lacks the module.
+/// The table of what has this name in the view's file; none where the file lacks it.
+fn named(
+    alloc: Global,
+    sources: &Sources,
+    view: View,
+    liberty: &PinTable,
+    name: &str,
+) -> Result<Option<PinTable>, NoMemory> {
+    match view {
+        View::Verilog => match sources.module_of(name) {
+            Some(module) => Ok(Some(module_pins(alloc, module, liberty)?)),
+            None => Ok(None),
+        },
+        View::Cdl => match sources.subcircuit(name) {
+            Some(subcircuit) => Ok(Some(subcircuit_pins(alloc, subcircuit, liberty)?)),
+            None => Ok(None),
+        },
+        View::Lef => match sources.macro_of(name) {
+            Some(found) => Ok(Some(macro_pins(alloc, found)?)),
+            None => Ok(None),
+        },
+        View::Liberty => Ok(None),
+    }
+}
+
+/// Another view's table; none where it is absent, or its file lacks the name.
 fn view_of(
     alloc: Global,
-    source: &Source,
+    sources: &Sources,
+    view: View,
     liberty: &PinTable,
     word: &str,
 ) -> Result<Option<PinTable>, NoMemory> {
     if word == "-" {
         return Ok(None);
     }
-    let Some(name) = word.strip_prefix("@") else {
-        return Ok(Some(table_of(alloc, word)?));
-    };
-    match module_of(source, name.as_bytes()) {
-        Some(module) => Ok(Some(module_pins(alloc, module, liberty)?)),
-        None => Ok(None),
+    match word.strip_prefix("@") {
+        Some(name) => named(alloc, sources, view, liberty, name),
+        None => Ok(Some(table_of(alloc, word)?)),
     }
 }
 
 /// The four views of a line, where the library has the cell.
-fn views_of(
-    alloc: Global,
-    library: &Library,
-    source: &Source,
-    line: &str,
-) -> Result<Option<FourViews>, NoMemory> {
+fn views_of(alloc: Global, sources: &Sources, line: &str) -> Result<Option<FourViews>, NoMemory> {
     let mut words = line.split_whitespace();
     let supplies = words.next().unwrap_or(".");
-    let Some(liberty) = liberty_of(alloc, library, supplies, words.next().unwrap_or("."))? else {
+    let Some(liberty) = liberty_of(alloc, sources, supplies, words.next().unwrap_or("."))? else {
         return Ok(None);
     };
-    let verilog = view_of(alloc, source, &liberty, words.next().unwrap_or("-"))?;
-    let cdl = view_of(alloc, source, &liberty, words.next().unwrap_or("-"))?;
-    let lef = view_of(alloc, source, &liberty, words.next().unwrap_or("-"))?;
+    let verilog = words.next().unwrap_or("-");
+    let verilog = view_of(alloc, sources, View::Verilog, &liberty, verilog)?;
+    let cdl = view_of(
+        alloc,
+        sources,
+        View::Cdl,
+        &liberty,
+        words.next().unwrap_or("-"),
+    )?;
+    let lef = view_of(
+        alloc,
+        sources,
+        View::Lef,
+        &liberty,
+        words.next().unwrap_or("-"),
+    )?;
     Ok(Some(FourViews {
         liberty,
         verilog,
@@ -131,13 +142,8 @@ fn show_findings<R: Print + Alloc<A = Global>>(rt: &R, views: &FourViews) -> Res
     Ok(())
 }
 
-fn show_case<R: Print + Alloc<A = Global>>(
-    rt: &R,
-    library: &Library,
-    source: &Source,
-    line: &str,
-) -> Result<()> {
-    match views_of(rt.alloc(), library, source, line).map_err(|_| AllocError)? {
+fn show_case<R: Print + Alloc<A = Global>>(rt: &R, sources: &Sources, line: &str) -> Result<()> {
+    match views_of(rt.alloc(), sources, line).map_err(|_| AllocError)? {
         Some(views) => {
             show_table(rt, "liberty", &views.liberty)?;
             show_view(rt, "verilog", &views.verilog)?;
@@ -152,42 +158,33 @@ fn show_case<R: Print + Alloc<A = Global>>(
     }
 }
 
-fn show_cases(rt: &HostRuntime, library: &Library, source: &Source, path: &str) -> Result<()> {
-    let cases = String::from_utf8(fs::read(rt, path)?)?;
-    for line in cases.lines() {
-        show_case(rt, library, source, line)?;
+fn show_cases<R: Print + Alloc<A = Global>>(rt: &R, texts: Texts<'_>, cases: &str) -> Result<()> {
+    match Sources::read(rt.alloc(), texts) {
+        Ok(sources) => {
+            for line in cases.lines() {
+                show_case(rt, &sources, line)?;
+            }
+        }
+        Err(refusal) => println!(rt; "refused: {refusal:?}")?,
     }
     Ok(())
 }
 
-fn show_sources(rt: &HostRuntime, library: &Library, path: &str, cases: &str) -> Result<()> {
-    let text = fs::read(rt, path)?;
-    match read_source(rt.alloc(), &text, &Limits::standard()) {
-        Ok(source) => show_cases(rt, library, &source, cases),
-        Err(refusal) => {
-            println!(rt; "refused: {refusal:?}")?;
-            Ok(())
-        }
-    }
-}
-
-fn show_files(rt: &HostRuntime, path: &str, verilog: &str, cases: &str) -> Result<()> {
-    let text = fs::read(rt, path)?;
-    match read_library(rt.alloc(), &text, &Limits::standard()) {
-        Ok(library) => show_sources(rt, &library, verilog, cases),
-        Err(refusal) => {
-            println!(rt; "refused: {refusal:?}")?;
-            Ok(())
-        }
-    }
-}
-
 fn main(rt: HostRuntime) -> Result<()> {
-    let mut words = env::args(&rt)?.skip(1);
-    let (Some(liberty), Some(verilog), Some(cases)) = (words.next(), words.next(), words.next())
-    else {
-        println!(rt; "usage: pin_rows LIBERTY VERILOG CASES")?;
-        return Ok(());
-    };
-    show_files(&rt, liberty.as_str(), verilog.as_str(), cases.as_str())
+    let mut files = Vec::new(rt.alloc());
+    for path in env::args(&rt)?.skip(1) {
+        files.push(fs::read(&rt, path.as_str())?)?;
+    }
+    if let [liberty, verilog, cdl, lef, cases] = files.as_slice() {
+        let texts = Texts {
+            liberty,
+            verilog,
+            cdl,
+            lef,
+        };
+        let cases = String::from_utf8(cases.to_vec(rt.alloc())?)?;
+        return show_cases(&rt, texts, &cases);
+    }
+    println!(rt; "usage: pin_rows LIBERTY VERILOG CDL LEF CASES")?;
+    Ok(())
 }

@@ -1,4 +1,4 @@
--- The pin tables of Liberty and Verilog.
+-- The pin tables of the four views.
 use Rattle.std.specs.Prelude.{ℕ, Bool, true, false, if◌then◌else◌, is_some, List, [], ◌∷◌, ◌++◌, map, Option, Some, None}
 use Rattle.std.specs.List.{flat_map, list_any}
 use Rattle.text_scan.specs.declared.pins.Direction.{Direction}
@@ -9,6 +9,9 @@ use Rattle.liberty_source.specs.declared.LibertyCell.{LibertyCell}
 use Rattle.liberty_source.specs.declared.LibertyPin.{LibertyPin}
 use Rattle.verilog_source.specs.declared.module.Module.{Module}
 use Rattle.verilog_source.specs.declared.module.Port.{Port}
+use Rattle.circuit.specs.declared.netlist.Subcircuit.{Subcircuit}
+use Rattle.lef_source.specs.declared.Macro.{Macro}
+use Rattle.lef_source.specs.declared.MacroPin.{MacroPin}
 use Rattle.pin_tables.specs.declared.table.Pin.{Pin}
 use Rattle.pin_tables.specs.declared.table.Role.{Role}
 use Rattle.pin_tables.specs.declared.table.PinTable.{PinTable}
@@ -53,18 +56,35 @@ lent_supplies pins supplies = if list_any is_supply_pin pins then [] else flat_m
 abbrev pub liberty_table : LibertyCell → List (List ℕ × PinKind) → PinTable
 liberty_table cell supplies = record { cell = cell.name; pins = cell_pins cell.pins ++ lent_supplies cell.pins supplies }
 
--- Verilog
+-- Verilog and CDL, whose pins have the kinds of Liberty's
 
 abbrev pub kind_or_signal : Option Role → PinKind
 kind_or_signal None = Signal
 kind_or_signal (Some role) = role.kind
 
--- a port, of the kind that Liberty's table gives its name
+-- a pin of another view, of the kind that Liberty's table gives its name
+abbrev pub pin_beside : List Pin → List ℕ → Direction → Pin
+pin_beside liberty name direction = pin name direction (kind_or_signal (said_of liberty name))
+
 abbrev pub port_pin : List Pin → Port → Pin
-port_pin liberty p = pin p.name p.direction (kind_or_signal (said_of liberty p.name))
+port_pin liberty p = pin_beside liberty p.name p.direction
 
 abbrev pub module_table : Module → PinTable → PinTable
 module_table m liberty = record { cell = m.name; pins = map (port_pin liberty.pins) m.ports }
+
+abbrev pub card_pin : List Pin → List ℕ × Direction → Pin
+card_pin liberty p = pin_beside liberty p.0 p.1
+
+abbrev pub subcircuit_table : Subcircuit → PinTable → PinTable
+subcircuit_table s liberty = record { cell = s.name; pins = map (card_pin liberty.pins) s.pins }
+
+-- LEF
+
+abbrev pub macro_pin : MacroPin → Pin
+macro_pin p = pin p.name p.direction p.kind
+
+abbrev pub macro_table : Macro → PinTable
+macro_table m = record { cell = m.name; pins = map macro_pin m.pins }
 
 -- As they are made from indexes
 

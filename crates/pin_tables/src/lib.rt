@@ -11,7 +11,7 @@ mod rule;
 mod table;
 
 pub use findings::pin_findings;
-pub use makers::{liberty_pins, module_pins};
+pub use makers::{liberty_pins, macro_pins, module_pins, subcircuit_pins};
 pub use table::{FourViews, Pin, PinTable, Role};
 
 #[cfg(test)]

@@ -1,4 +1,4 @@
-//! The pin tables of Liberty and Verilog.
+//! The pin tables of the four views.
 ghost use Rattle.std.specs.Prelude.{◌≡◌, ◌++◌, ◌∷◌, [], IfOk, OnOk, map};
 ghost use Rattle.std.specs.List.{list_any};
 ghost use Rattle.pin_tables.specs.Makers as spec;
@@ -9,6 +9,8 @@ use crate::index::PinIndex;
 use crate::lookup::PinLookup;
 use crate::rule::is_supply;
 use crate::table::{Pin, PinTable};
+use circuit::Subcircuit;
+use lef_source::{Macro, MacroPin};
 use liberty_source::{LibertyCell, LibertyPin};
 use std::alloc::Global;
 use text_scan::{Direction, Items, NoMemory, PinKind, Text};
@@ -42,6 +44,37 @@ pub fn module_pins(alloc: Global, module: &Module, liberty: &PinTable) -> Result
     add_ports(alloc, &known, module.ports.as_slice(), &mut pins)?;
     Ok(PinTable {
         cell: module.name.copied(alloc)?,
+        pins: Items::from_vec(pins),
+    })
+}
+
+/// CDL's table: the subcircuit's pins, each with the direction that `*.PININFO` gives it, absent without, and of the kind
+/// that Liberty's table gives its name, else a signal.
+pub fn subcircuit_pins(
+    alloc: Global,
+    part: &Subcircuit,
+    liberty: &PinTable,
+) -> Result<PinTable, NoMemory>
+    ensures { IfOk result (λ table. table ≡ spec.subcircuit_table part.now liberty.now) }
+{
+    let known = PinLookup::of(alloc, liberty.pins.as_slice())?;
+    let mut pins = Vec::new(alloc);
+    add_card_pins(alloc, &known, part.pins.as_slice(), &mut pins)?;
+    Ok(PinTable {
+        cell: part.name.copied(alloc)?,
+        pins: Items::from_vec(pins),
+    })
+}
+
+/// LEF's table: the macro's pins, each with the direction and the kind that the macro gives it (LEF/DEF 5.8 Language
+/// Reference, Macro Pin Statement).
+pub fn macro_pins(alloc: Global, part: &Macro) -> Result<PinTable, NoMemory>
+    ensures { IfOk result (λ table. table ≡ spec.macro_table part.now) }
+{
+    let mut pins = Vec::new(alloc);
+    add_macro_pins(alloc, part.pins.as_slice(), &mut pins)?;
+    Ok(PinTable {
+        cell: part.name.copied(alloc)?,
         pins: Items::from_vec(pins),
     })
 }
@@ -152,6 +185,30 @@ fn add_ports(
     for port in ports {
         let kind = kind_of(known, &port.name);
         add(alloc, &port.name, port.direction, kind, pins)?;
+    }
+    Ok(())
+}
+
+fn add_card_pins(
+    alloc: Global,
+    known: &PinLookup<'_>,
+    card: &[(Text, Direction)],
+    pins: &mut Vec<Pin>,
+) -> Result<(), NoMemory>
+    ensures { OnOk result (pins.new.items ≡ pins.old.items ++ map (spec.card_pin known.now) card.now) }
+{
+    for (name, direction) in card {
+        let kind = kind_of(known, name);
+        add(alloc, name, *direction, kind, pins)?;
+    }
+    Ok(())
+}
+
+fn add_macro_pins(alloc: Global, own: &[MacroPin], pins: &mut Vec<Pin>) -> Result<(), NoMemory>
+    ensures { OnOk result (pins.new.items ≡ pins.old.items ++ map spec.macro_pin own.now) }
+{
+    for pin in own {
+        add(alloc, &pin.name, pin.direction, pin.kind, pins)?;
     }
     Ok(())
 }

@@ -36,7 +36,8 @@ impl Display for View {
     }
 }
 
-/// The rule that a finding breaks: P rules are about pins, H rules are a house's own, M rules are about meanings.
+/// The rule that a finding breaks: P rules are about pins, H rules are a house's own, M rules are about meanings, Z rules
+/// about outputs that can float.
 #[derive(Clone, Copy, Debug, PartialEq, Eq)]
 pub enum Code {
     /// The view has no such cell.
@@ -53,10 +54,18 @@ pub enum Code {
     H2,
     /// A pin's name has a byte that the house doesn't allow.
     H3,
+    /// A pin has a shape outside the cell's margin.
+    H4,
+    /// Shapes of two pins overlap on a layer that the house names.
+    H5,
     /// Verilog has another value where Liberty's is known.
     M1,
     /// The transistors have another value where Liberty's is known.
     M2,
+    /// Verilog drives or floats an output where Liberty doesn't.
+    Z1,
+    /// The transistors drive or float an output where Liberty doesn't.
+    Z2,
 }
 
 impl Code {
@@ -72,8 +81,12 @@ impl Code {
             Code::H1 => "H1",
             Code::H2 => "H2",
             Code::H3 => "H3",
+            Code::H4 => "H4",
+            Code::H5 => "H5",
             Code::M1 => "M1",
             Code::M2 => "M2",
+            Code::Z1 => "Z1",
+            Code::Z2 => "Z2",
         }
     }
 }
@@ -94,7 +107,7 @@ pub struct Finding {
     pub pin: Option<Text>,
     /// The view that differs from Liberty.
     pub view: View,
-    /// Where the values differ; there exactly for M1 and M2.
+    /// Where the values differ; there exactly for M1, M2, Z1 and Z2.
     pub mismatch: Option<Mismatch>,
     /// The number of the first waiver that covers it, counted from 1.
     pub waiver: Option<u32>,

@@ -43,6 +43,13 @@ pub enum Reason {
     UnknownModel(Text),
     /// A pin that stands twice in a subcircuit's pin list.
     SupplyShort(Text),
+    /// A net that can float and that an element reads.
+    FloatRead(Text),
+    /// A shape of a pin that isn't one, by its number among the pin's shapes, from 1; `SIZE` and 0 for the macro's size.
+    BadShape {
+        pin: Text,
+        index: u32,
+    },
     /// There is more of something than is read.
     Limit {
         kind: LimitKind,

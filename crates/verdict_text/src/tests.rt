@@ -210,3 +210,27 @@ fn reasons_of_changes_have_their_lines(rt: HostRuntime) -> Result<(), Fail> {
     );
     Ok(())
 }
+
+#[test]
+fn a_block_is_read_back_in_one_spelling(rt: HostRuntime) -> Result<(), Fail> {
+    let alloc = rt.alloc();
+    let text =
+        b"cell S0\ncheck full\nrows 2\ndefined 2\nfinding M2 Y cdl row 2 change A=1 liberty 0 view X waived 3\nverdict waived\n".as_slice();
+    let mut again = Vec::new(alloc);
+    if let Some(cell) = read_block(alloc, text)? {
+        write_block(alloc, &cell, &mut again)?;
+    }
+    assert_eq!(rt; again.as_slice(), text);
+    let blanks = b"cell  S0\ncheck none\nfinding P1 A verilog\nverdict failed\n".as_slice();
+    assert!(rt; read_block(alloc, blanks)?.is_none());
+    let unended = b"cell S0\ncheck none\nfinding P1 A verilog\nverdict failed".as_slice();
+    assert!(rt; read_block(alloc, unended)?.is_none());
+    Ok(())
+}
+
+#[test]
+fn codes_are_read_exactly(rt: HostRuntime) -> Result<(), Fail> {
+    assert_eq!(rt; code_of(b"Z2"), Some(Code::Z2));
+    assert_eq!(rt; code_of(b"M3"), None);
+    Ok(())
+}

@@ -1,10 +1,13 @@
-//! The lines of findings and refusals.
-ghost use Rattle.std.specs.Prelude.{◌≡◌, ◌++◌, IfOk, OnOk, OnErr, codes, decimal, string_bytes};
+//! The lines of findings, refusals and blocks.
+ghost use Rattle.std.specs.Prelude.{◌≡◌, ◌++◌, OnOk, OnErr, IfOk, codes, map};
+ghost use Rattle.std.specs.List.{flat_map};
 ghost use Rattle.verdict_text.specs.Lines as spec;
 
 use crate::finding::{Change, Finding, Mismatch};
-use crate::line::Line;
+use crate::line::Lines;
 use crate::reason::Reason;
+use crate::reason_line::add_reason_words;
+use crate::verdict::{CellResult, Verdict};
 use std::alloc::Global;
 use tern_core::Tern;
 use text_scan::{NoMemory, Text};
@@ -14,7 +17,9 @@ pub fn write_finding(alloc: Global, finding: &Finding, text: &mut Vec<u8>) -> Re
     ensures ok { OnOk result (text.new.items ≡ text.old.items ++ spec.finding_line finding.now) }
     ensures err { OnErr result (text.new.items ≡ text.old.items) }
 {
-    finding_line(alloc, finding)?.append_to(text)
+    let mut lines = Lines::new(alloc);
+    add_finding(&mut lines, finding)?;
+    lines.append_to(text)
 }
 
 /// Appends the line of a refusal. Where memory is refused the text is as before.
@@ -22,153 +27,157 @@ pub fn write_reason(alloc: Global, reason: &Reason, text: &mut Vec<u8>) -> Resul
     ensures ok { OnOk result (text.new.items ≡ text.old.items ++ spec.reason_line reason.now) }
     ensures err { OnErr result (text.new.items ≡ text.old.items) }
 {
-    reason_line(alloc, reason)?.append_to(text)
+    let mut lines = Lines::new(alloc);
+    add_reason(&mut lines, reason)?;
+    lines.append_to(text)
 }
 
-fn finding_line(alloc: Global, finding: &Finding) -> Result<Line, NoMemory>
-    ensures { IfOk result (λ line. line ≡ codes "finding " ++ spec.finding_words finding.now) }
+/// Appends the block of a cell: its name, what was found of it, and the word of its verdict, each on lines of its own.
+/// Where memory is refused the text is as before.
+pub fn write_block(alloc: Global, cell: &CellResult, text: &mut Vec<u8>) -> Result<(), NoMemory>
+    ensures ok { OnOk result (text.new.items ≡ text.old.items ++ spec.block cell.now) }
+    ensures err { OnErr result (text.new.items ≡ text.old.items) }
 {
-    let code = finding.code;
-    let view = finding.view;
-    let mut line = Line::new(alloc);
-    line.words(format!(in alloc; "finding {code} ")?.as_str())?;
-    match &finding.pin {
-        None => line.words("-")?,
-        Some(pin) => line.name(pin)?,
-    }
-    line.words(format!(in alloc; " {view}")?.as_str())?;
-    if let Some(mismatch) = &finding.mismatch {
-        add_mismatch(alloc, &mut line, mismatch)?;
-    }
-    if let Some(number) = finding.waiver {
-        line.words(format!(in alloc; " waived {number}")?.as_str())?;
-    }
-    Ok(line)
+    block_lines(alloc, cell)?.append_to(text)
 }
 
-fn add_mismatch(alloc: Global, line: &mut Line, mismatch: &Mismatch) -> Result<(), NoMemory>
-    ensures { OnOk result (line.new ≡ line.old ++ spec.mismatch_words mismatch.now) }
+/// The lines of a cell's block.
+pub(crate) fn block_lines(alloc: Global, cell: &CellResult) -> Result<Lines, NoMemory>
+    ensures { IfOk result (λ lines. lines ≡ spec.block cell.now) }
 {
-    add_row(alloc, line, mismatch.row)?;
-    add_any_change(alloc, line, &mismatch.change)?;
-    add_values(alloc, line, mismatch.liberty, mismatch.other)?;
+    let mut lines = Lines::new(alloc);
+    lines.begin("cell")?;
+    lines.name(&cell.name)?;
+    lines.end()?;
+    add_verdict(&mut lines, &cell.verdict)?;
+    lines.begin("verdict")?;
+    lines.word(cell.verdict.word().word())?;
+    lines.end()?;
+    Ok(lines)
+}
+
+fn add_verdict(lines: &mut Lines, verdict: &Verdict) -> Result<(), NoMemory>
+    ensures { OnOk result (lines.new ≡ lines.old ++ flat_map spec.line (spec.verdict_texts verdict.now)) }
+{
+    match verdict {
+        Verdict::Checked {
+            rows,
+            defined,
+            findings,
+        } => {
+            lines.begin("check full\n")?;
+            add_count(lines, "rows", *rows)?;
+            add_count(lines, "defined", *defined)?;
+            add_findings(lines, findings.as_slice())
+        }
+        Verdict::Unchecked(findings) => {
+            lines.begin("check none\n")?;
+            add_findings(lines, findings.as_slice())
+        }
+        Verdict::Refused(reason) => add_reason(lines, reason),
+    }
+}
+
+fn add_count(lines: &mut Lines, what: &str, count: u32) -> Result<(), NoMemory>
+    ensures { OnOk result (lines.new ≡ lines.old ++ spec.count_line what.now count) }
+{
+    lines.begin(what)?;
+    lines.number(count)?;
+    lines.end()
+}
+
+fn add_findings(lines: &mut Lines, findings: &[Finding]) -> Result<(), NoMemory>
+    ensures { OnOk result (lines.new ≡ lines.old ++ flat_map spec.finding_line findings.now) }
+{
+    for finding in findings {
+        add_finding(lines, finding)?;
+    }
     Ok(())
 }
 
-fn add_row(alloc: Global, line: &mut Line, row: u32) -> Result<(), NoMemory>
-    ensures { OnOk result (line.new ≡ line.old ++ spec.row_words row) }
+fn add_finding(lines: &mut Lines, finding: &Finding) -> Result<(), NoMemory>
+    ensures { OnOk result (lines.new ≡ lines.old ++ spec.finding_line finding.now) }
 {
-    line.words(format!(in alloc; " row {row} change ")?.as_str())
+    lines.begin("finding")?;
+    lines.word(finding.code.word())?;
+    add_pin(lines, &finding.pin)?;
+    lines.word(finding.view.word())?;
+    add_mismatch(lines, &finding.mismatch)?;
+    add_waiver(lines, finding.waiver)?;
+    lines.end()
 }
 
-fn add_values(alloc: Global, line: &mut Line, liberty: Tern, other: Tern) -> Result<(), NoMemory>
-    ensures { OnOk result (line.new ≡ line.old ++ spec.values_words liberty other) }
+fn add_pin(lines: &mut Lines, pin: &Option<Text>) -> Result<(), NoMemory>
+    ensures { OnOk result (lines.new ≡ lines.old ++ spec.after_blank (spec.pin_word pin.now)) }
 {
-    line.words(format!(in alloc; " liberty {liberty} view {other}")?.as_str())
+    match pin {
+        None => lines.word("-"),
+        Some(pin) => lines.name(pin),
+    }
 }
 
-fn add_any_change(alloc: Global, line: &mut Line, change: &Option<Change>) -> Result<(), NoMemory>
-    ensures { OnOk result (line.new ≡ line.old ++ spec.any_change_word change.now) }
+fn add_mismatch(lines: &mut Lines, mismatch: &Option<Mismatch>) -> Result<(), NoMemory>
+    ensures { OnOk result (lines.new ≡ lines.old ++ spec.spaced (spec.mismatch_words mismatch.now)) }
+{
+    let Some(mismatch) = mismatch else {
+        return Ok(());
+    };
+    add_row(lines, mismatch.row)?;
+    add_any_change(lines, &mismatch.change)?;
+    add_values(lines, mismatch.liberty, mismatch.other)
+}
+
+fn add_values(lines: &mut Lines, liberty: Tern, other: Tern) -> Result<(), NoMemory>
+    ensures { OnOk result (lines.new ≡ lines.old ++ spec.spaced (spec.values_words liberty other)) }
+{
+    lines.word("liberty")?;
+    lines.word(liberty.symbol())?;
+    lines.word("view")?;
+    lines.word(other.symbol())
+}
+
+fn add_any_change(lines: &mut Lines, change: &Option<Change>) -> Result<(), NoMemory>
+    ensures { OnOk result (lines.new ≡ lines.old ++ spec.after_blank (spec.any_change_word change.now)) }
 {
     match change {
-        None => line.words("-"),
-        Some(change) => add_change(alloc, line, change),
+        None => lines.word("-"),
+        Some(change) => add_change(lines, change),
     }
 }
 
-fn add_change(alloc: Global, line: &mut Line, change: &Change) -> Result<(), NoMemory>
-    ensures { OnOk result (line.new ≡ line.old ++ spec.change_word change.now) }
+fn add_waiver(lines: &mut Lines, waiver: Option<u32>) -> Result<(), NoMemory>
+    ensures { OnOk result (lines.new ≡ lines.old ++ spec.spaced (spec.waived_words waiver)) }
 {
-    let value = change.value;
-    line.name(&change.pin)?;
-    line.words(format!(in alloc; "={value}")?.as_str())
-}
-
-fn reason_line(alloc: Global, reason: &Reason) -> Result<Line, NoMemory>
-    ensures { IfOk result (λ line. line ≡ codes "refused " ++ spec.reason_words reason.now) }
-{
-    let mut line = Line::new(alloc);
-    line.words("refused ")?;
-    add_reason(alloc, &mut line, reason)?;
-    Ok(line)
-}
-
-fn add_reason(alloc: Global, line: &mut Line, reason: &Reason) -> Result<(), NoMemory>
-    ensures { OnOk result (line.new ≡ line.old ++ spec.reason_words reason.now) }
-{
-    match reason {
-        Reason::Construct {
-            view,
-            word,
-            line: at,
-        } => {
-            line.words(format!(in alloc; "construct {view} line {at} ")?.as_str())?;
-            line.name(word)
+    match waiver {
+        None => Ok(()),
+        Some(number) => {
+            lines.word("waived")?;
+            lines.number(number)
         }
-        Reason::UnknownName(name) => add_named(line, "unknown name ", name),
-        Reason::BadFunction { owner, place } => {
-            add_named(line, "function ", owner)?;
-            line.words(format!(in alloc; " place {place}")?.as_str())
-        }
-        Reason::BadStateRow(row) => line.words(format!(in alloc; "state row {row}")?.as_str()),
-        Reason::UdpRow { udp, row } => {
-            add_named(line, "udp ", udp)?;
-            line.words(format!(in alloc; " row {row}")?.as_str())
-        }
-        Reason::UdpRows { udp, first, second } => {
-            add_named(line, "udp ", udp)?;
-            line.words(format!(in alloc; " rows {first} {second}")?.as_str())
-        }
-        Reason::Loop(net) => add_named(line, "loop ", net),
-        Reason::TwoDrivers(net) => add_named(line, "two drivers ", net),
-        Reason::UnknownUdp(name) => add_named(line, "unknown udp ", name),
-        Reason::PortCount(label) => add_named(line, "port count ", label),
-        Reason::UnknownModel(name) => add_named(line, "unknown model ", name),
-        Reason::SupplyShort(node) => add_named(line, "short ", node),
-        Reason::Limit { kind, number } => {
-            line.words(format!(in alloc; "limit {kind} {number}")?.as_str())
-        }
-        Reason::NoTable => line.words("no table"),
-        Reason::EmptyTable => line.words("empty table"),
-        Reason::TableShape(at) => line.words(format!(in alloc; "table line {at}")?.as_str()),
-        Reason::RowNotAtRest { row, place } => {
-            line.words(format!(in alloc; "not at rest row {row} ")?.as_str())?;
-            line.name(place)
-        }
-        Reason::NotClosed { row, change } => {
-            line.words("not closed")?;
-            add_step(alloc, line, *row, change)
-        }
-        Reason::Moving { row, change, node } => add_moving(alloc, line, *row, change, node),
     }
 }
 
-fn add_moving(
-    alloc: Global,
-    line: &mut Line,
-    row: u32,
-    change: &Change,
-    node: &Text,
-) -> Result<(), NoMemory>
-    ensures { OnOk result (line.new ≡ line.old ++ spec.moving_words row change.now node.now) }
+fn add_reason(lines: &mut Lines, reason: &Reason) -> Result<(), NoMemory>
+    ensures { OnOk result (lines.new ≡ lines.old ++ spec.reason_line reason.now) }
 {
-    line.words("moving")?;
-    add_step(alloc, line, row, change)?;
-    add_named(line, " node ", node)?;
-    Ok(())
+    lines.begin("refused")?;
+    add_reason_words(lines, reason)?;
+    lines.end()
 }
 
-// A row and the change that comes after it.
-fn add_step(alloc: Global, line: &mut Line, row: u32, change: &Change) -> Result<(), NoMemory>
-    ensures { OnOk result (line.new ≡ line.old ++ spec.step_words row change.now) }
+// The words before a change.
+pub(crate) fn add_row(lines: &mut Lines, row: u32) -> Result<(), NoMemory>
+    ensures { OnOk result (lines.new ≡ lines.old ++ spec.spaced (spec.row_words row)) }
 {
-    add_row(alloc, line, row)?;
-    add_change(alloc, line, change)
+    lines.word("row")?;
+    lines.number(row)?;
+    lines.word("change")
 }
 
-fn add_named(line: &mut Line, words: &str, name: &Text) -> Result<(), NoMemory>
-    ensures { OnOk result (line.new ≡ line.old ++ (words.now ++ name.now)) }
+pub(crate) fn add_change(lines: &mut Lines, change: &Change) -> Result<(), NoMemory>
+    ensures { OnOk result (lines.new ≡ lines.old ++ spec.after_blank (spec.change_word change.now)) }
 {
-    line.words(words)?;
-    line.name(name)
+    lines.name(&change.pin)?;
+    lines.append(b"=")?;
+    lines.append(change.value.symbol().as_bytes())
 }

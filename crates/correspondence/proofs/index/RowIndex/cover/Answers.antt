@@ -1,25 +1,27 @@
 use Rattle.std.proofs.Common.{◌≡◌, ◌<◌, Some, length, refl, sym, ap, subst, ◌∙◌, arith, rules}
 use Rattle.std.specs.Prelude.{slice_get}
-use Rattle.std.specs.Ordering.{nat_cmp, is_ne}
-use Rattle.std.specs.Cmp.Lexicographic.{slice_cmp}
+use Rattle.std.specs.Ordering.{is_ne}
 use Rattle.std.proofs.lemmas.Option.{slice_get_read}
-use Rattle.correspondence.specs.Index.{key}
+use Rattle.correspondence.specs.Index.{IsFirstAt, key_cmp, key_of, words}
 use Rattle.correspondence.proofs.Found.{below_covers_not, row_within, none_at_end, none_above, first_here, none_more, not_here}
 use Rattle.correspondence.proofs.index.RowIndex.cover.Goals as goal
 
 pub loop-i-init : goal.loop-i-init
 loop-i-init c = λ j e lt at.
+    let entries = c.args.self.now.entries.items in
+    let cut = subst (λ n. IsFirstAt entries (n, words c.args.pins.now c.args.liberty.now c.args.udps.now) c.first_at-i.result) c.front-front.ensures c.first_at-i.ensures in
     below_covers_not c.args.table.now.rows c.args.self.now.entries.items c.requires.entries c.requires.sorted c.args.pins.now c.args.liberty.now c.args.udps.now c.args.nodes.now
-    j e at (c.first_at-i.ensures.below j e lt at)
+    j e at (cut.below j e lt at)
 
 pub returns-then-is_ne : goal.returns-then-is_ne
 returns-then-is_ne c =
     let entries = c.args.self.now.entries.items in
-    let q = key c.args.pins.now c.args.liberty.now c.args.udps.now in
     let at = slice_get_read entries (length entries) c.loop-i.i c.index-entry.result.now refl (omega arith) c.index-entry.ensures in
-    let apart = sym (c.if-is_ne.ensures ∙ ap is_ne c.compare.ensures ∙ ap (λ w. is_ne (slice_cmp nat_cmp w q)) c.deref.ensures.value) in
+    let key_words = words c.args.pins.now c.args.liberty.now c.args.udps.now in
+    let cut = subst (λ n. IsFirstAt entries (n, key_words) c.first_at-i.result) c.front-front.ensures c.first_at-i.ensures in
+    let apart = sym (c.if-is_ne.ensures ∙ ap is_ne (c.compare.ensures ∙ ap (λ n. key_cmp (key_of c.index-entry.result.now) (n, key_words)) c.front-front.ensures)) in
     none_above c.args.table.now.rows entries c.requires.entries c.requires.sorted c.args.pins.now c.args.liberty.now c.args.udps.now c.args.nodes.now
-    c.loop-i.i c.index-entry.result.now at c.loop-i.invariant (c.first_at-i.ensures.others c.loop-i.i c.index-entry.result.now (omega arith) at) apart
+    c.loop-i.i c.index-entry.result.now at c.loop-i.invariant (cut.others c.loop-i.i c.index-entry.result.now (omega arith) at) apart
 
 pub bounds-rows-entry : goal.bounds-rows-entry
 bounds-rows-entry c =

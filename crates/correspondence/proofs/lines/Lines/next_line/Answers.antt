@@ -1,7 +1,5 @@
-use Rattle.std.proofs.Common.{◌<◌, ◌≤◌, length, refl, sym, ap, ◌∙◌, arith}
+use Rattle.std.proofs.Common.{refl, sym, ap, ◌∙◌, arith}
 use Rattle.text_scan.specs.Left.{is_end}
-use Rattle.text_scan.specs.declared.token.Token.{Token}
-use Rattle.correspondence.specs.Left.{tokens_left}
 use Rattle.correspondence.specs.Lines.{ends_line, is_comment}
 use Rattle.correspondence.proofs.Turns.{begun_line, comment_line, empty_line, is_word, no_end, no_line, same_word, shorter}
 use Rattle.correspondence.proofs.lines.Lines.next_line.Goals as goal

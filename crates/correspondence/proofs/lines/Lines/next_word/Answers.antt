@@ -1,5 +1,5 @@
 use Rattle.std.proofs.Common.{refl, sym}
-use Rattle.correspondence.proofs.Turns.{Read, stands, word_next, word_lines, end_next, end_lines, longer, same_word}
+use Rattle.correspondence.proofs.Turns.{stands, word_next, word_lines, end_next, end_lines, longer, same_word}
 use Rattle.correspondence.proofs.lines.Lines.next_word.Goals as goal
 
 pub returns-then-ends_line-clause-came : goal.returns-then-ends_line-clause-came

@@ -1,4 +1,4 @@
-use Rattle.std.proofs.Common.{sym, refl, ◌∙◌, ap}
+use Rattle.std.proofs.Common.{sym, ◌∙◌}
 use Rattle.grammar.specs.Rule.{many}
 use Rattle.lef_reader.specs.MacroGrammar.{item, macro_end, macro_body}
 use Rattle.lef_reader.specs.Steps.{more, rest}

@@ -1,5 +1,4 @@
 use Rattle.std.proofs.Common.{sym, ap, refl, ◌∙◌, ◌∷◌}
-use Rattle.lef_reader.specs.Looks.{is_output}
 use Rattle.lef_reader.specs.MacroGrammar.{direction, direction_end}
 use Rattle.lef_reader.specs.Steps.{rest}
 use Rattle.grammar.specs.Reading.{read}
@@ -24,9 +23,9 @@ returns c =
     let source = c.args.source.now in
     let m = c.args.self.now in
     let tokens = rest c.shift-2.new.self in
-    let d = c.direction_of-self.result in
+    let d = c.direction_of-direction.result in
     gives_along c.direction_end.result _ (read (direction_end source c.is_output.result) (directed d m) tokens) (directed d m) _
     (ap (read (direction source) m) (c.shift.ensures ∙ ap (λ z. c.args.tokens.now.ahead ∷ z) c.shift-2.ensures)
-    ∙ direction_ok source m d c.look-look.result c.args.tokens.now.ahead c.shift.new.self.ahead tokens c.requires c.look-look.ensures (sym c.is_direction_word.ensures ∙ c.if-not-is_direction_word.false) c.direction_of-self.ensures
+    ∙ direction_ok source m d c.look-look.result c.args.tokens.now.ahead c.shift.new.self.ahead tokens c.requires c.look-look.ensures (sym c.is_direction_word.ensures ∙ c.if-not-is_direction_word.false) c.direction_of-direction.ensures
     ∙ ap (λ o. read (direction_end source o) (directed d m) tokens) (sym c.is_output.ensures))
     (c.direction_end.ensures (directed d m))

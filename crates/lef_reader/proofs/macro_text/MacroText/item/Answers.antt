@@ -1,6 +1,6 @@
 use Rattle.std.proofs.Common.{None, sym, ap, refl, ◌∙◌}
 use Rattle.lef_reader.specs.Passing.{passed, dropped, past_statement}
-use Rattle.lef_reader.specs.MacroGrammar.{rest_to, item}
+use Rattle.lef_reader.specs.MacroGrammar.{item}
 use Rattle.lef_reader.specs.Steps.{rest, more}
 use Rattle.lef_reader.specs.declared.until.Until.TheVariants.{End}
 use Rattle.grammar.specs.Reading.{read}

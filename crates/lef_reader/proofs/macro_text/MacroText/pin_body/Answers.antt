@@ -1,6 +1,5 @@
-use Rattle.std.proofs.Common.{sym, refl, ◌∙◌, ap}
-use Rattle.grammar.specs.Rule.{many, seq}
-use Rattle.grammar.specs.Reading.{read, ◌>>=◌}
+use Rattle.std.proofs.Common.{sym, ◌∙◌}
+use Rattle.grammar.specs.Rule.{many}
 use Rattle.lef_reader.specs.MacroGrammar.{pin_item, pin_end, pin_body}
 use Rattle.lef_reader.specs.Steps.{more, rest}
 use Rattle.lef_reader.proofs.PinReads.{is_end_look, no_pin_end}

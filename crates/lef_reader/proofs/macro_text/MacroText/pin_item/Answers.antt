@@ -1,4 +1,4 @@
-use Rattle.std.proofs.Common.{sym, ap, refl, ◌∙◌}
+use Rattle.std.proofs.Common.{sym, refl, ◌∙◌}
 use Rattle.lef_reader.specs.Passing.{past_statement}
 use Rattle.lef_reader.specs.Steps.{rest, more}
 use Rattle.lef_reader.proofs.OverTokens.{look_goes}

@@ -1,4 +1,4 @@
-use Rattle.std.proofs.Common.{sym, refl, ◌∙◌}
+use Rattle.std.proofs.Common.{sym, ◌∙◌}
 use Rattle.lef_reader.specs.MacroGrammar.{pin_item}
 use Rattle.lef_reader.specs.Steps.{more, rest}
 use Rattle.lef_reader.proofs.Skipped.{halts_along}

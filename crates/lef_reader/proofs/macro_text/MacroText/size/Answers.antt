@@ -1,4 +1,4 @@
-use Rattle.std.proofs.Common.{None, Ok, ap, refl, ◌∙◌, sym}
+use Rattle.std.proofs.Common.{None, ap, refl, ◌∙◌}
 use Rattle.lef_reader.specs.Passing.{passed}
 use Rattle.lef_reader.specs.MacroGrammar.{size}
 use Rattle.lef_reader.specs.Steps.{rest}

@@ -1,14 +1,9 @@
-use Rattle.std.proofs.Common.{None, sym, ap, refl, ◌∙◌, ◌∷◌, arith}
+use Rattle.std.proofs.Common.{ap, refl, ◌∙◌}
 use Rattle.grammar.specs.Reading.{read}
 use Rattle.lef_reader.specs.declared.until.Opened.TheVariants as openings
-use Rattle.lef_reader.specs.declared.until.Until.TheVariants as untils
-use Rattle.lef_reader.specs.Looks.{look_of, is_library}
-use Rattle.lef_reader.specs.Passing.{passed, dropped, past_statement}
-use Rattle.lef_reader.specs.OutsideGrammar.{extension, block, ending, section, section_rest, macro_name, title}
-use Rattle.lef_reader.specs.Steps.{rest, more}
+use Rattle.lef_reader.specs.OutsideGrammar.{block}
+use Rattle.lef_reader.specs.Steps.{rest}
 use Rattle.lef_reader.proofs.OverTokens.{look_goes}
-use Rattle.lef_reader.proofs.PinReads.{can_name_goes}
-use Rattle.lef_reader.proofs.Skipped.{behind_read, halts_along}
 use Rattle.lef_reader.proofs.OutsideReads as reads
 use Rattle.lef_reader.proofs.OutsideReads.{behind_halts, finds_along}
 use Rattle.lef_reader.proofs.tokens.Tokens.block.Goals as goal

@@ -1,7 +1,7 @@
-use Rattle.std.proofs.Common.{◌≡◌, Bool, true, false, ◌&&◌, sym, ap, refl, ◌∙◌}
-use Rattle.lef_reader.specs.Looks.{look_of, is_tristate}
+use Rattle.std.proofs.Common.{◌≡◌, true, false, ◌&&◌, sym, ap, refl, ◌∙◌}
+use Rattle.lef_tokens.specs.Looks.{look_of, is_tristate}
 use Rattle.lef_reader.specs.Passing.{past_semicolon}
-use Rattle.lef_reader.specs.MacroGrammar.{direction_end, semicolon}
+use Rattle.lef_reader.specs.MacroGrammar.{direction_end}
 use Rattle.lef_reader.specs.Steps.{rest, more}
 use Rattle.grammar.specs.Reading.{read}
 use Rattle.lef_reader.proofs.OverTokens.{look_goes}

@@ -1,4 +1,4 @@
-use Rattle.std.proofs.Common.{sym, refl, ◌∙◌, ap}
+use Rattle.std.proofs.Common.{refl, ap}
 use Rattle.grammar.specs.Reading.{read}
 use Rattle.lef_reader.specs.MacroGrammar.{macro_end}
 use Rattle.lef_reader.specs.Steps.{rest}
