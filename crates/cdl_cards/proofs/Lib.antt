@@ -3,3 +3,4 @@ pub mod LineWords
 pub mod Places
 pub mod Same
 pub mod Turns
+pub mod Tokens

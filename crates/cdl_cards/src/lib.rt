@@ -9,6 +9,7 @@ mod cards;
 mod cutting;
 mod ends;
 mod kinds;
+pub mod laws;
 mod line;
 mod reading;
 mod search;

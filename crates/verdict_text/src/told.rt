@@ -52,8 +52,13 @@ fn sides_of(alloc: Global, word: &[u8]) -> Result<Vec<&[u8]>, NoMemory>
 
 /// The code that a text is; none exactly where it is no code.
 pub fn code_of(text: &[u8]) -> Option<Code>
-    ensures told { IsCode text.now result }
-    ensures found { result ≡ spec.told_code text.now }
+    ensures { IsCode text.now result }
+{
+    told_code(text)
+}
+
+fn told_code(word: &[u8]) -> Option<Code>
+    ensures { result ≡ spec.told_code word.now }
 {
     let codes = [
         Code::P1,
@@ -70,7 +75,7 @@ pub fn code_of(text: &[u8]) -> Option<Code>
         Code::Z1,
         Code::Z2,
     ];
-    code_among(codes.as_slice(), text)
+    code_among(codes.as_slice(), word)
 }
 
 fn code_among(codes: &[Code], word: &[u8]) -> Option<Code>
@@ -242,7 +247,7 @@ pub(crate) fn told_finding(alloc: Global, words: &[&[u8]]) -> Result<Finding, Un
     let [_, code, pin, view, tail @ ..] = words else {
         return Err(Unread::Unlike);
     };
-    let code = code_of(code).ok_or(Unread::Unlike)?;
+    let code = told_code(code).ok_or(Unread::Unlike)?;
     let view = view_of(view).ok_or(Unread::Unlike)?;
     let (mismatch, waiver) = told_tail(alloc, tail)?;
     Ok(Finding {
