@@ -121,7 +121,8 @@ reason_lines (TableShape line) h = rw (decimal_line line) refl
 reason_lines (RowNotAtRest row place) h = rw (decimal_line row, text_line place [] h) refl
 reason_lines (NotClosed row change) h = rw (decimal_line row, change_line change [] h) refl
 reason_lines (Moving row change node) h =
-    rw (decimal_line row, change_line change (node ∷ []) h, text_line node [] (both_true _ _ h).1) refl
+    let both : (are_graphic change.pin ≡ true) × (list_all are_graphic (node ∷ []) ≡ true) = both_true _ _ h in
+    rw (decimal_line row, change_line change (node ∷ []) h, text_line node [] both.1) refl
 
 pin_line : (pin : Option (List ℕ)) → AreGraphic (pin_texts pin) → is_line (pin_word pin) ≡ true
 pin_line None h = refl
