@@ -11,3 +11,4 @@ pub mod DiskAsked
 pub mod MemDisk
 pub mod DiskLog
 pub mod DiskLaws
+pub mod DiskSpent
