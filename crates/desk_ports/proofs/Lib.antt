@@ -1,1 +1,2 @@
 pub mod FilesLemmas
+mod DiskSteps

@@ -6,3 +6,9 @@ pub mod Files
 pub mod MemShelf
 pub mod MemSink
 pub mod Real
+pub mod Disk
+pub mod DiskAsked
+pub mod MemDisk
+pub mod DiskLog
+pub mod DiskLaws
+pub mod DiskSpent

@@ -1,0 +1,11 @@
+mod TwoWrites
+mod Front
+mod Gates
+mod Finding
+mod Moments
+mod NewHeader
+mod Records
+mod Single
+mod Spending
+mod Split
+mod Walking
