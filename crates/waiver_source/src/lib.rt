@@ -1,13 +1,9 @@
-// A library with one function.
+//! Waivers as plain data: the findings that a house lives with, and until when. What a reader of waiver files gives, and
+//! what a check's findings are held against.
 #![tactic(auto)]
 
-ghost use Rattle.std.specs.Prelude.{◌≡◌};
-ghost use Rattle.waiver_source.specs.Echo.{echo_of};
+mod waiver;
+mod waivers;
 
-// The `ensures` clause is the contract: what `echo` returns is `echo_of` of its argument, a definition
-// in `specs/Echo.antt`, which a caller's clause can cite too.
-pub fn echo(x: usize) -> usize
-    ensures { result ≡ echo_of x }
-{
-    x
-}
+pub use waiver::Waiver;
+pub use waivers::Waivers;
