@@ -6,7 +6,7 @@ use Rattle.csv.specs.Reading.{default_config, records_from, records_next}
 use Rattle.csv.specs.declared.parser.State.{State}
 use Rattle.csv.specs.declared.parser.State.TheVariants as st
 use Rattle.csv.specs.declared.parser.Action.{Action}
-use Rattle.tech_reader.specs.Records.{left_of}
+use Rattle.csv_records.specs.Records.{left_of}
 
 -- where the action ends a record, the state is one between two
 abbrev Ends : State × Action → Type 0

@@ -1,7 +1,7 @@
 use Rattle.std.proofs.Common.{◌∙◌, inr, refl}
 use Rattle.csv.specs.Reading.{strip_bom}
-use Rattle.tech_reader.specs.Records.{records_of}
-use Rattle.tech_reader.proofs.rows.open.Goals as goal
+use Rattle.csv_records.specs.Records.{records_of}
+use Rattle.csv_records.proofs.rows.open.Goals as goal
 
 pub returns : goal.returns
 unfolding records_of

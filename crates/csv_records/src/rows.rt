@@ -1,7 +1,7 @@
 //! The records of a text, one after the other.
 ghost use Rattle.std.specs.Prelude.{◌≡◌, ℕ, List, MatchResult};
 ghost use Rattle.csv.specs.Records.{fields_of};
-ghost use Rattle.tech_reader.specs.Records.{Gave, HasLeft, records_of};
+ghost use Rattle.csv_records.specs.Records.{Gave, HasLeft, records_of};
 ghost use Rattle.text_scan.specs.declared.refusal.FileRefusal.TheVariants as refusals;
 
 use csv::{ByteRecord, Reader, ReaderBuilder};

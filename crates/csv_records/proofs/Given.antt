@@ -6,8 +6,8 @@ use Rattle.csv.specs.Reading.{NextIs, ReadRecord, ReadsNext, default_config, is_
 use Rattle.csv.specs.declared.parser.Config.{Config}
 use Rattle.csv.specs.declared.parser.State.{State}
 use Rattle.csv.specs.declared.reader.Reader.{Reader}
-use Rattle.tech_reader.specs.Records.{Gave, HasLeft, known, left_of}
-use Rattle.tech_reader.proofs.Machine.{left_more, left_none}
+use Rattle.csv_records.specs.Records.{Gave, HasLeft, known, left_of}
+use Rattle.csv_records.proofs.Machine.{left_more, left_none}
 
 found_next : (o : Option Read) (f : List (List ℕ)) (s : State) (z : List ℕ) → NextIs o true f s z → o ≡ Some (f, s, z)
 found_next None f s z n = cc n

@@ -1,5 +1,5 @@
-use Rattle.tech_reader.proofs.Reading.{gave}
-use Rattle.tech_reader.proofs.rows.next_row.Goals as goal
+use Rattle.csv_records.proofs.Given.{gave}
+use Rattle.csv_records.proofs.rows.next_row.Goals as goal
 
 pub returns : goal.returns
 returns c =
