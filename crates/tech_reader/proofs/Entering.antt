@@ -1,19 +1,19 @@
 -- Entering a record after others.
-use Rattle.std.proofs.Common.{◌≡◌, ◌≢◌, ◌≤◌, ◌<◌, ◌+◌, ◌++◌, ℕ, zero, suc, true, false, List, [], ◌∷◌, length, subst, Option, Some, None, refl, sym, ap, ◌∙◌, arith}
-use Rattle.std.specs.Prelude.{filter_map, if◌then◌else◌, nat_le}
+use Rattle.std.proofs.Common.{◌≡◌, ◌≢◌, ◌≤◌, ◌+◌, ◌++◌, ℕ, zero, suc, true, false, List, [], ◌∷◌, length, subst, Option, Some, None, refl, sym, ap, ◌∙◌, arith}
+use Rattle.std.specs.Prelude.{filter_map, if◌then◌else◌}
 use Rattle.std.specs.List.{cons_option}
-use Rattle.std.proofs.lemmas.List.{map-append, length-map}
+use Rattle.std.proofs.lemmas.List.{map-append}
 use Rattle.std.proofs.lemmas.List.Elements.{filter_map-append}
 use Rattle.name_index.specs.Places.{is_known}
 use Rattle.text_scan.specs.declared.limits.Limits.{Limits}
-use Rattle.text_scan.specs.declared.limits.LimitKind.TheVariants as limit_kinds
 use Rattle.text_scan.specs.declared.refusal.FileRefusal.{FileRefusal}
 use Rattle.text_scan.specs.declared.refusal.FileRefusal.TheVariants as refusals
 use Rattle.csv.specs.Records.{field_at}
-use Rattle.tech_reader.specs.Fields.{first_of, wrong}
+use Rattle.csv_records.specs.Fields.{first_of}
+use Rattle.tech_reader.specs.Fields.{wrong}
 use Rattle.tech_reader.specs.Held.{Holds, Kept}
 use Rattle.tech_reader.specs.Row.{items_of}
-use Rattle.tech_reader.specs.Tech.{double, key, model_of, refusal_after, size_of, supply_of}
+use Rattle.tech_reader.specs.Tech.{double, key, model_of, refuses, size_of, supply_of}
 use Rattle.file_rules.specs.Told.{TellsSome}
 use Rattle.tech_reader.specs.declared.parts.Parts.{Parts}
 
@@ -43,22 +43,10 @@ not_four limits line (x ∷ y ∷ z ∷ []) n = refl
 not_four limits line (x ∷ y ∷ z ∷ w ∷ []) n = absurd (n refl)
 not_four limits line (x ∷ y ∷ z ∷ w ∷ v ∷ vs) n = refl
 
-pub counted : (parts : Parts) (rows : List (List (List ℕ))) → Holds parts rows → length parts.names ≡ length rows
-counted parts rows h = ap length h.names ∙ length-map rows key
-
-pub too_many : (limits : Limits) (parts : Parts) (rows : List (List (List ℕ))) (row : List (List ℕ)) (n : ℕ) → Holds parts rows → n ≡ length parts.names → limits.records ≤ n
-    → refusal_after limits rows row ≡ Some (refusals.TooMany limit_kinds.Records limits.records)
-unfolding refusal_after
-too_many limits parts rows row n h m le = let k = counted parts rows h in let yes : nat_le limits.records (length rows) ≡ true = grind arith in rw yes refl
-
--- what is told of a record that is one of the first
-pub judged : (limits : Limits) (parts : Parts) (rows : List (List (List ℕ))) (row : List (List ℕ)) (n : ℕ) → Holds parts rows → n ≡ length parts.names → n < limits.records
-    → refusal_after limits rows row ≡ first_of (wrong limits (n + 1) row) (if is_known (key row) parts.names then double row (n + 1) else None)
-unfolding refusal_after
-judged limits parts rows row n h m lt =
-    let k : n ≡ length rows = m ∙ counted parts rows h in
-    let no : nat_le limits.records (length rows) ≡ false = grind arith in
-    rw (no, k, h.names) refl
+-- what is told of a record
+judged : (limits : Limits) (parts : Parts) (rows : List (List (List ℕ))) (row : List (List ℕ)) (line : ℕ) → Holds parts rows → line ≡ length rows + 1
+    → refuses limits rows row ≡ first_of (wrong limits line row) (if is_known (key row) parts.names then double row line else None)
+judged limits parts rows row line h m = rw (m, h.names) refl
 
 pub tells : (e : FileRefusal) (o : Option FileRefusal) → o ≡ Some e → TellsSome e o
 tells refusals.NoMemory o h = tt
@@ -84,21 +72,21 @@ holds_more old new rows row name h k e = record {
 }
 
 -- a record whose number of fields is wrong
-pub other_number : (limits : Limits) (parts : Parts) (rows : List (List (List ℕ))) (row : List (List ℕ)) (n : ℕ) → Holds parts rows → n ≡ length parts.names → n < limits.records → length row ≢ 4
-    → refusal_after limits rows row ≡ Some (refusals.Syntax (n + 1) 0)
-other_number limits parts rows row n h m lt four = judged limits parts rows row n h m lt ∙ rw (not_four limits (n + 1) row four) refl
+pub other_number : (limits : Limits) (rows : List (List (List ℕ))) (row : List (List ℕ)) (line : ℕ) → line ≡ length rows + 1 → length row ≢ 4
+    → refuses limits rows row ≡ Some (refusals.Syntax line 0)
+other_number limits rows row line m four = rw (← m) (rw (not_four limits line row four) refl)
 
 -- one with a wrong field
-pub wrong_field : (limits : Limits) (parts : Parts) (rows : List (List (List ℕ))) (row : List (List ℕ)) (n : ℕ) (e : FileRefusal) → Holds parts rows → n ≡ length parts.names → n < limits.records
-    → Some e ≡ wrong limits (n + 1) row → TellsSome e (refusal_after limits rows row)
-wrong_field limits parts rows row n e h m lt w = tells e _ (judged limits parts rows row n h m lt ∙ rw (sym w) refl)
+pub wrong_field : (limits : Limits) (rows : List (List (List ℕ))) (row : List (List ℕ)) (line : ℕ) (e : FileRefusal) → line ≡ length rows + 1
+    → Some e ≡ wrong limits line row → TellsSome e (refuses limits rows row)
+wrong_field limits rows row line e m w = tells e _ (rw (← m) (rw (sym w) refl))
 
 -- one that stands a second time
-pub second_time : (limits : Limits) (parts : Parts) (rows : List (List (List ℕ))) (row : List (List ℕ)) (n : ℕ) (e : FileRefusal) → Holds parts rows → n ≡ length parts.names → n < limits.records
-    → None ≡ wrong limits (n + 1) row → is_known (key row) parts.names ≡ true → TellsSome e (double row (n + 1)) → TellsSome e (refusal_after limits rows row)
-second_time limits parts rows row n e h m lt w k t = subst (λ z. TellsSome e z) (sym (judged limits parts rows row n h m lt ∙ rw (sym w, k) refl)) t
+pub second_time : (limits : Limits) (parts : Parts) (rows : List (List (List ℕ))) (row : List (List ℕ)) (line : ℕ) (e : FileRefusal) → Holds parts rows → line ≡ length rows + 1
+    → None ≡ wrong limits line row → is_known (key row) parts.names ≡ true → TellsSome e (double row line) → TellsSome e (refuses limits rows row)
+second_time limits parts rows row line e h m w k t = subst (λ z. TellsSome e z) (sym (judged limits parts rows row line h m ∙ rw (sym w, k) refl)) t
 
 -- one that is taken
-pub taken : (limits : Limits) (parts : Parts) (rows : List (List (List ℕ))) (row : List (List ℕ)) (n : ℕ) → Holds parts rows → n ≡ length parts.names → n < limits.records
-    → None ≡ wrong limits (n + 1) row → is_known (key row) parts.names ≡ false → refusal_after limits rows row ≡ None
-taken limits parts rows row n h m lt w k = judged limits parts rows row n h m lt ∙ rw (sym w, k) refl
+pub taken : (limits : Limits) (parts : Parts) (rows : List (List (List ℕ))) (row : List (List ℕ)) (line : ℕ) → Holds parts rows → line ≡ length rows + 1
+    → None ≡ wrong limits line row → is_known (key row) parts.names ≡ false → refuses limits rows row ≡ None
+taken limits parts rows row line h m w k = judged limits parts rows row line h m ∙ rw (sym w, k) refl

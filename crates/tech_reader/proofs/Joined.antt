@@ -1,5 +1,5 @@
 -- Texts that are joined by a comma.
-use Rattle.std.proofs.Common.{◌≡◌, ◌++◌, ℕ, Bool, true, false, ◌&&◌, List, [], ◌∷◌, refl, sym, ap, subst}
+use Rattle.std.proofs.Common.{◌≡◌, ℕ, Bool, true, false, ◌&&◌, List, [], ◌∷◌, refl}
 use Rattle.file_rules.specs.Names.{has_name_bytes, is_name_byte, is_no_name_byte}
 use Rattle.tech_reader.specs.Tech.{joined}
 

@@ -1,6 +1,6 @@
 -- A technology that is read has names, strengths within their ranges, and nothing twice.
-use Rattle.std.proofs.Common.{◌≡◌, ◌≤◌, ◌+◌, ◌-◌, ◌++◌, ◌⊎◌, inl, inr, ℕ, Bool, true, false, List, [], ◌∷◌, length, map, subst, Option, Some, None, Result, Ok, Err, refl, sym, ap, ◌∙◌, append_assoc, arith}
-use Rattle.std.specs.Prelude.{◌&&◌, filter_map, if◌then◌else◌, nat_le, codes}
+use Rattle.std.proofs.Common.{◌≡◌, ◌≤◌, ◌+◌, ◌++◌, ◌⊎◌, inl, inr, ℕ, Bool, true, false, List, [], ◌∷◌, length, map, subst, Option, Some, None, Ok, refl, sym, ap, ◌∙◌, append_assoc, arith}
+use Rattle.std.specs.Prelude.{filter_map, if◌then◌else◌, nat_le, codes}
 use Rattle.std.specs.List.{cons_option, list_all, list_any}
 use Rattle.std.specs.Str.{bytes_eq}
 use Rattle.std.proofs.lemmas.Bool.Decides.{nat_tests}
@@ -17,9 +17,10 @@ use Rattle.circuit.specs.declared.tech.ModelCard.{ModelCard}
 use Rattle.circuit.specs.declared.tech.Size.{Size}
 use Rattle.circuit.specs.declared.tech.Supply.{Supply}
 use Rattle.circuit.specs.Tech.{IsTech, is_model, is_size, is_supply, is_supply_kind, model_name, size_names, supply_name}
-use Rattle.tech_reader.specs.Fields as fields
-use Rattle.tech_reader.specs.Fields.{digit, first_of, is_digit_within, kind_of, named, unless, wrong, wrong_of_four}
-use Rattle.tech_reader.specs.Tech.{answer, double, doubled, first_refusal, joined, key, key_of, model, model_of, pin_kind, refusal_after, size, size_of, supply, supply_of, tech_of, told}
+use Rattle.csv_records.specs.Answers.{answer, first_refusal, refusal_after}
+use Rattle.csv_records.specs.Fields.{first_of, named, unless}
+use Rattle.tech_reader.specs.Fields.{digit, is_digit_within, kind_of, wrong, wrong_of_four}
+use Rattle.tech_reader.specs.Tech.{joined, key, key_of, model, model_of, pin_kind, refuses, size, size_of, supply, supply_of, tech_of, told}
 use Rattle.tech_reader.specs.declared.fields.Kind.{Kind}
 use Rattle.tech_reader.specs.declared.fields.Kind.TheVariants as kinds
 
@@ -262,7 +263,7 @@ record AreSound (limits : Limits) (rows : List Row) : Type 0 where
   sizes : IsSound (is_size limits) size_names (filter_map size_of rows)
   supplies : IsSound (is_supply limits) supply_name (filter_map supply_of rows)
 
-one_more : (limits : Limits) (rows : List Row) (row : Row) → AreSound limits rows → refusal_after limits rows row ≡ None → AreSound limits (rows ++ row ∷ [])
+one_more : (limits : Limits) (rows : List Row) (row : Row) → AreSound limits rows → refusal_after limits (refuses limits) rows row ≡ None → AreSound limits (rows ++ row ∷ [])
 unfolding refusal_after
 one_more limits rows row s h =
     let room = not_some _ _ _ h in
@@ -279,7 +280,7 @@ one_more limits rows row s h =
     count_more : (limits : Limits) (rows : List Row) (row : Row) → nat_le limits.records (length rows) ≡ false → length (rows ++ row ∷ []) ≤ limits.records
     count_more limits rows row h = let n = length-append rows (row ∷ []) in grind (arith, nat_tests)
 
-all_of : (limits : Limits) (before rows : List Row) → AreSound limits before → first_refusal limits before rows ≡ None → AreSound limits (before ++ rows)
+all_of : (limits : Limits) (before rows : List Row) → AreSound limits before → first_refusal limits (refuses limits) before rows ≡ None → AreSound limits (before ++ rows)
 unfolding first_refusal
 all_of limits before [] s h = subst (AreSound limits) (sym (append-nil before)) s
 all_of limits before (row ∷ rows) s h =

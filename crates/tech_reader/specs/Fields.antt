@@ -1,28 +1,12 @@
 -- What the fields of a record may be, and the first that is wrong.
-use Rattle.std.specs.Prelude.{ℕ, Bool, false, ◌+◌, ◌-◌, ◌&&◌, ◌||◌, nat_le, nat_lt, if◌then◌else◌, List, [], ◌∷◌, length, codes, Option, Some, None}
+use Rattle.std.specs.Prelude.{ℕ, Bool, false, ◌+◌, ◌-◌, ◌&&◌, ◌||◌, nat_le, if◌then◌else◌, List, [], ◌∷◌, codes, Option, Some, None}
 use Rattle.std.specs.Str.{bytes_eq}
 use Rattle.text_scan.specs.declared.limits.Limits.{Limits}
-use Rattle.text_scan.specs.declared.limits.LimitKind.TheVariants as limit_kinds
 use Rattle.text_scan.specs.declared.refusal.FileRefusal.{FileRefusal}
 use Rattle.text_scan.specs.declared.refusal.FileRefusal.TheVariants as refusals
-use Rattle.file_rules.specs.Names.{is_name, is_too_long}
-use Rattle.file_rules.specs.Refusals.{too_many}
+use Rattle.csv_records.specs.Fields.{first_of, named, unless}
 use Rattle.tech_reader.specs.declared.fields.Kind.{Kind}
 use Rattle.tech_reader.specs.declared.fields.Kind.TheVariants as kinds
-
-abbrev pub first_of : Option FileRefusal → Option FileRefusal → Option FileRefusal
-first_of None next = next
-first_of (Some refusal) next = Some refusal
-
--- nothing where the field in this column is right, else Syntax there
-abbrev pub unless : Bool → ℕ → ℕ → Option FileRefusal
-unless ok line column = if ok then None else Some (refusals.Syntax line column)
-
--- nothing where the field is a name; its length is judged first
-unfoldable pub named : Limits → ℕ → ℕ → List ℕ → Option FileRefusal
-named limits line column field =
-    if is_too_long limits field then Some (too_many limits limit_kinds.Name)
-    else unless (is_name field) line column
 
 unfoldable pub is_channel : List ℕ → Bool
 is_channel field = bytes_eq field (codes "n") || bytes_eq field (codes "p")

@@ -1,6 +1,5 @@
 -- The four fields of a record as the code has them.
-use Rattle.std.specs.Prelude.{ℕ, ◌≡◌, List, [], ◌∷◌, Option, None, Some, Result, Ok, Err}
-use Rattle.text_scan.specs.declared.refusal.FileRefusal.{FileRefusal}
+use Rattle.std.specs.Prelude.{ℕ, ◌≡◌, List, [], ◌∷◌, Option, None, Some}
 use Rattle.tech_reader.specs.Fields.{kind_of}
 use Rattle.tech_reader.specs.declared.fields.Fields.{Fields}
 use Rattle.tech_reader.specs.declared.fields.Kind.{Kind}
@@ -12,11 +11,6 @@ row_of f = f.kind.now ∷ f.name.now ∷ f.third.now ∷ f.last.now ∷ []
 -- they are of this kind
 abbrev pub IsOf : Kind → Fields → Type 0
 IsOf kind f = kind_of f.kind.now ≡ Some kind
-
--- the refusal that was given, if any
-abbrev pub refusal_of : {X : Type 0} → Result X FileRefusal → Option FileRefusal
-refusal_of (Ok x) = None
-refusal_of (Err refusal) = Some refusal
 
 -- the item, if there is one
 abbrev pub items_of : {X : Type 0} → Option X → List X

@@ -1,19 +1,19 @@
 -- What a list of records is read as.
-use Rattle.std.specs.Prelude.{ℕ, ◌+◌, ◌≡◌, nat_le, if◌then◌else◌, List, [], ◌∷◌, ◌++◌, length, map, filter_map, codes, Option, Some, None, Result, Ok, Err}
+use Rattle.std.specs.Prelude.{ℕ, ◌+◌, if◌then◌else◌, List, [], ◌∷◌, ◌++◌, length, map, filter_map, codes, Option, Some, None, Result}
 use Rattle.std.specs.Str.{bytes_eq}
 use Rattle.name_index.specs.Places.{is_known}
 use Rattle.text_scan.specs.declared.limits.Limits.{Limits}
-use Rattle.text_scan.specs.declared.limits.LimitKind.TheVariants as limit_kinds
 use Rattle.text_scan.specs.declared.refusal.FileRefusal.{FileRefusal}
 use Rattle.text_scan.specs.declared.refusal.FileRefusal.TheVariants as refusals
 use Rattle.text_scan.specs.declared.pins.PinKind.{PinKind}
 use Rattle.text_scan.specs.declared.pins.PinKind.TheVariants as pin_kinds
-use Rattle.file_rules.specs.Refusals.{too_many}
 use Rattle.circuit.specs.declared.tech.Tech.{Tech}
 use Rattle.circuit.specs.declared.tech.ModelCard.{ModelCard}
 use Rattle.circuit.specs.declared.tech.Size.{Size}
 use Rattle.circuit.specs.declared.tech.Supply.{Supply}
-use Rattle.tech_reader.specs.Fields.{digit, first_of, kind_of, wrong}
+use Rattle.csv_records.specs.Answers.{answer, first_refusal}
+use Rattle.csv_records.specs.Fields.{first_of}
+use Rattle.tech_reader.specs.Fields.{digit, kind_of, wrong}
 use Rattle.tech_reader.specs.declared.fields.Kind.{Kind}
 use Rattle.tech_reader.specs.declared.fields.Kind.TheVariants as kinds
 
@@ -45,16 +45,9 @@ double row line = Some (refusals.DoubleName (shown row) line)
 abbrev pub doubled : ℕ → List (List (List ℕ)) → List (List ℕ) → Option FileRefusal
 doubled line before row = if is_known (key row) (map key before) then double row line else None
 
--- why a record is refused after these
-unfoldable pub refusal_after : Limits → List (List (List ℕ)) → List (List ℕ) → Option FileRefusal
-refusal_after limits before row =
-    if nat_le limits.records (length before) then Some (too_many limits limit_kinds.Records)
-    else first_of (wrong limits (length before + 1) row) (doubled (length before + 1) before row)
-
--- the first refusal of the records that come after these
-unfoldable pub first_refusal : Limits → List (List (List ℕ)) → List (List (List ℕ)) → Option FileRefusal
-first_refusal limits before [] = None
-first_refusal limits before (row ∷ rows) = first_of (refusal_after limits before row) (first_refusal limits (before ++ row ∷ []) rows)
+-- why a record is refused after these, if it is: for its fields, or for what stands already
+abbrev pub refuses : Limits → List (List (List ℕ)) → List (List ℕ) → Option FileRefusal
+refuses limits before row = first_of (wrong limits (length before + 1) row) (doubled (length before + 1) before row)
 
 abbrev pub model : Option Kind → List ℕ → List ℕ → List ℕ → Option ModelCard
 model (Some kinds.Model) name channel strength = Some (record { name = name; p = bytes_eq channel (codes "p"); strength = digit strength })
@@ -88,10 +81,6 @@ supply_of _ = None
 unfoldable pub tech_of : List (List (List ℕ)) → Tech
 tech_of rows = record { models = filter_map model_of rows; sizes = filter_map size_of rows; supplies = filter_map supply_of rows }
 
-abbrev pub answer : {X : Type 0} → Option FileRefusal → X → Result X FileRefusal
-answer None value = Ok value
-answer (Some refusal) value = Err refusal
-
 -- the first refusal where there is one, else the technology
 unfoldable pub told : Limits → List (List (List ℕ)) → Result Tech FileRefusal
-told limits rows = answer (first_refusal limits [] rows) (tech_of rows)
+told limits rows = answer (first_refusal limits (refuses limits) [] rows) (tech_of rows)

@@ -2,16 +2,17 @@
 ghost use Rattle.std.specs.Prelude.{◌≡◌, ◌≢◌, ◌≤◌, length, IfOk, MatchOption, MatchResult, Some, ⊤};
 ghost use Rattle.csv.specs.Records.{fields_of};
 ghost use Rattle.tech_reader.specs.Fields as spec;
-ghost use Rattle.tech_reader.specs.Row.{IsOf, refusal_of, row_of};
+ghost use Rattle.csv_records.specs.Answers.{refusal_of};
+ghost use Rattle.tech_reader.specs.Row.{IsOf, row_of};
 ghost use Rattle.tech_reader.specs.Tech as tech;
 ghost use Rattle.tech_reader.specs.declared.fields.Kind.TheVariants as kinds;
 ghost use Rattle.file_rules.specs.Told.{TellsSome};
 
 use circuit::{ModelCard, Size, Supply};
 use csv::ByteRecord;
-use file_rules::{is_name, is_too_long, too_many};
+use csv_records::{check_name, unless};
 use std::alloc::Global;
-use text_scan::{FileRefusal, LimitKind, Limits, NoMemory, PinKind, Text};
+use text_scan::{FileRefusal, Limits, NoMemory, PinKind, Text};
 
 /// What a record tells.
 #[derive(Clone, Copy, Debug, PartialEq, Eq)]
@@ -77,27 +78,6 @@ fn digit(field: &[u8]) -> u8
         [digit] => digit.saturating_sub(b'0'),
         _ => 0,
     }
-}
-
-// Syntax at this field, unless it is right.
-fn unless(ok: bool, line: u32, column: u32) -> Result<(), FileRefusal>
-    ensures { refusal_of result ≡ spec.unless ok line column }
-{
-    if ok {
-        Ok(())
-    } else {
-        Err(FileRefusal::Syntax { line, column })
-    }
-}
-
-#[tactic(auto, unfolding(crate::specs::Fields::named))]
-fn check_name(limits: &Limits, line: u32, column: u32, field: &[u8]) -> Result<(), FileRefusal>
-    ensures { refusal_of result ≡ spec.named limits.now line column field.now }
-{
-    if is_too_long(limits, field) {
-        return Err(too_many(limits, LimitKind::Name));
-    }
-    unless(is_name(field), line, column)
 }
 
 fn pin_kind(word: &[u8]) -> PinKind

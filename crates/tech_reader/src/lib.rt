@@ -5,7 +5,6 @@ mod fields;
 mod laws;
 mod parts;
 mod public_call;
-mod rows;
 
 pub use laws::joined_parts_are_told_apart;
 pub use public_call::read_tech;

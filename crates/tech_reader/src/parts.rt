@@ -1,17 +1,16 @@
 //! What was read of a technology so far.
-ghost use Rattle.std.specs.Prelude.{◌≡◌, ◌<◌, ◌+◌, ◌++◌, ◌∷◌, [], ℕ, List, Some, length, OnOk};
-ghost use Rattle.csv.specs.Records.{fields_of};
-ghost use Rattle.tech_reader.specs.Held.{Entered, Holds, Kept};
+ghost use Rattle.std.specs.Prelude.{◌≡◌, [], ℕ, List, Some, OnOk};
+ghost use Rattle.tech_reader.specs.Held.{Holds, Kept};
 ghost use Rattle.tech_reader.specs.Row.{IsOf, row_of};
 ghost use Rattle.tech_reader.specs.Tech as tech;
 
 use crate::fields::{Fields, Kind};
 use circuit::{ModelCard, Size, Supply, Tech};
 use csv::ByteRecord;
-use file_rules::too_many;
+use csv_records::Entries;
 use name_index::Names;
 use std::alloc::Global;
-use text_scan::{FileRefusal, Items, LimitKind, Limits, NoMemory};
+use text_scan::{FileRefusal, Items, Limits, NoMemory};
 
 /// The parts of a technology in the order of their records.
 #[derive(Drop)]
@@ -70,22 +69,23 @@ impl Parts {
             Kind::Supply => self.supplies.push(fields.supply(alloc)?),
         }
     }
+}
 
-    /// Enters the record after the others, or tells why it is refused.
-    pub fn enter(
+impl Entries for Parts {
+    ghost use Rattle.tech_reader.specs.Held.{Holds};
+    ghost use Rattle.tech_reader.specs.Tech.{refuses};
+
+    ghost holds = { Holds };
+
+    ghost refuses = { refuses };
+
+    fn enter(
         &mut self,
         alloc: Global,
         limits: &Limits,
+        line: u32,
         row: &ByteRecord,
-    ) -> Result<(), FileRefusal>
-        ensures entered { (rows : List (List (List ℕ))) → Holds self.old rows → Entered limits.now self.new rows (fields_of row.now) result }
-        ensures counted { OnOk result ((length self.old.names < limits.now.records) × (length self.new.names ≡ length self.old.names + 1)) }
-    {
-        let count = self.names.len();
-        if limits.records as usize <= count {
-            return Err(too_many(limits, LimitKind::Records));
-        }
-        let line = count as u32 + 1;
+    ) -> Result<(), FileRefusal> {
         let Some(fields) = Fields::of(row) else {
             return Err(FileRefusal::Syntax { line, column: 0 });
         };

@@ -1,14 +1,13 @@
 //! The public call.
-ghost use Rattle.tech_reader.specs.Records.{records_of};
+ghost use Rattle.csv_records.specs.Records.{records_of};
 ghost use Rattle.tech_reader.specs.Tech.{told};
 ghost use Rattle.std.specs.Prelude.{IfOk};
 ghost use Rattle.file_rules.specs.Told.{Agrees};
 ghost use Rattle.circuit.specs.Tech.{IsTech};
 
 use crate::parts::Parts;
-use crate::rows::{next_row, open};
 use circuit::Tech;
-use csv::ByteRecord;
+use csv_records::read_records;
 use std::alloc::Global;
 use text_scan::{FileRefusal, Limits};
 
@@ -21,14 +20,6 @@ pub fn read_tech(alloc: Global, text: &[u8], limits: &Limits) -> Result<Tech, Fi
     ensures told { Agrees result (told limits.now (records_of text.now)) }
     ensures kept { IfOk result (λ tech. IsTech limits.now tech) }
 {
-    let mut reader = open(alloc, text);
-    let mut row = ByteRecord::new(alloc);
-    let mut parts = Parts::new(alloc);
-    'records: loop {
-        let found = next_row(&mut reader, &mut row)?;
-        if !found {
-            return Ok(parts.into_tech());
-        }
-        parts.enter(alloc, limits, &row)?;
-    }
+    let parts = read_records(alloc, text, limits, Parts::new(alloc))?;
+    Ok(parts.into_tech())
 }

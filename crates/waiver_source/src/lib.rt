@@ -1,0 +1,9 @@
+//! Waivers as plain data: the findings that a house lives with, and until when. What a reader of waiver files gives, and
+//! what a check's findings are held against.
+#![tactic(auto)]
+
+mod waiver;
+mod waivers;
+
+pub use waiver::Waiver;
+pub use waivers::Waivers;
