@@ -12,3 +12,4 @@ pub mod MemDisk
 pub mod DiskLog
 pub mod DiskLaws
 pub mod DiskSpent
+pub mod RealDisk

@@ -46,3 +46,8 @@ pub tells_before : (now before : Option (List ℕ)) → is_some now ≡ is_some 
 tells_before None before same bytes is = absurd (cc)
 tells_before (Some x) None same bytes is = absurd (cc)
 tells_before (Some x) (Some told) same bytes is = search rules
+
+-- a disk that tells has bytes
+pub told_now : (reads : Option (List ℕ)) → IsTrue (is_some reads) → (bytes : List ℕ) × (reads ≡ Some bytes)
+told_now None tells = absurd (search rules)
+told_now (Some bytes) tells = (bytes, refl)

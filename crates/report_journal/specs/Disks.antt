@@ -1,5 +1,5 @@
 -- What a disk holds of a journal.
-use Rattle.std.specs.Prelude.{◌≡◌, ◌⊎◌, ◌≤◌, ◌+◌, ℕ, List, [], ◌∷◌, ◌++◌, length, Option, Some, All}
+use Rattle.std.specs.Prelude.{◌≡◌, ◌⊎◌, ◌≤◌, ◌+◌, ℕ, List, [], ◌∷◌, ◌++◌, length, Option, Some, All, IsTrue, is_some}
 use Rattle.desk_ports.specs.Disk.{Only}
 use Rattle.report_journal.specs.Image.{Key, plain_head, records, IsBlock, StandsFor}
 use Rattle.report_journal.specs.Journal.{JournalState}
@@ -20,6 +20,10 @@ pub record Keeps {D : Type 0} (reads : D → Option (List ℕ)) (image : D → L
   pub bytes : List ℕ
   pub holds : Holds reads image disk bytes
   pub at : IsAt journal blocks bytes
+
+-- where the disk tells what it reads, it is as `open`, `kept` or the last `append` left it
+abbrev pub IsLeft : {D : Type 0} → (D → Option (List ℕ)) → (D → List ℕ → Type 0) → D → JournalState → Type 0
+IsLeft reads image disk journal = IsTrue (is_some (reads disk)) → (blocks : List (List ℕ)) × Keeps reads image disk journal blocks
 
 -- an image stands for the blocks, or for these and one more
 abbrev pub IsBeforeOrAfter : Key → List (List ℕ) → List ℕ → List ℕ → Type 0

@@ -3,7 +3,7 @@ ghost use Rattle.std.specs.Prelude.{◌≡◌, ◌≤◌, ◌<◌, ◌+◌, ◌+
 ghost use Rattle.desk_ports.specs.Disk.{Adds};
 ghost use Rattle.desk_ports.specs.DiskSpent.{Costs};
 ghost use Rattle.desk_ports.specs.Faults.{HasCause};
-ghost use Rattle.report_journal.specs.Disks.{Keeps, IsBeforeOrAfter};
+ghost use Rattle.report_journal.specs.Disks.{Keeps, IsLeft, IsBeforeOrAfter};
 
 use crate::block_frame::Frame;
 use crate::journal::Journal;
@@ -21,12 +21,12 @@ impl Journal {
         requires room { self.count < 4096 }
 
         // The disk is as `open`, `kept` or the last `append` left it.
-        requires left { IsTrue (is_some (D.reads disk.old))
-            → (blocks : List (List ℕ)) × Keeps D.reads D.image disk.old self blocks }
+        requires left { IsLeft D.reads D.image disk.old self }
 
         // Every image has the new block behind the others.
         ensures appended { (blocks : List (List ℕ)) → Keeps D.reads D.image disk.old self blocks
             → IfOk result (λ r. Keeps D.reads D.image disk.new r.0 (blocks ++ frame ∷ [])) }
+        ensures left { IfOk result (λ r. IsLeft D.reads D.image disk.new r.0) }
 
         // An image of any moment stands for the blocks before it, or for these and the new one.
         ensures any_moment { (blocks : List (List ℕ)) → Keeps D.reads D.image disk.old self blocks

@@ -4,7 +4,7 @@ ghost use Rattle.desk_ports.specs.Disk.{Known, Untouched};
 ghost use Rattle.desk_ports.specs.DiskSpent.{Costs};
 ghost use Rattle.desk_ports.specs.Faults.{Rose, HasCause};
 ghost use Rattle.report_journal.specs.Image.{plain_head, records, StandsFor};
-ghost use Rattle.report_journal.specs.Disks.{Keeps};
+ghost use Rattle.report_journal.specs.Disks.{Keeps, IsLeft};
 ghost use Rattle.report_journal.specs.Steps.{IsRecord};
 ghost use Rattle.report_journal.specs.declared.kept.KeptRefusal.TheVariants.{Failed, NoMemory};
 
@@ -85,8 +85,7 @@ impl Journal {
         requires index { index < self.now.count }
 
         // The disk is as `open`, `kept` or the last `append` left it.
-        requires left { IsTrue (is_some (D.reads disk.old))
-            → (blocks : List (List ℕ)) × Keeps D.reads D.image disk.old self.now blocks }
+        requires left { IsLeft D.reads D.image disk.old self.now }
 
         ensures block { (blocks : List (List ℕ)) → Keeps D.reads D.image disk.old self.now blocks
             → IfOk result (λ r. r.block ≡ get_or blocks index []) }
@@ -97,6 +96,7 @@ impl Journal {
 
         // The disk is left as it was.
         ensures untouched { Untouched D.reads D.image D.moment D.image_since disk.old disk.new }
+        ensures left { IsLeft D.reads D.image disk.new self.now }
         ensures stays { (blocks : List (List ℕ)) → Keeps D.reads D.image disk.old self.now blocks
             → Keeps D.reads D.image disk.new self.now blocks }
 

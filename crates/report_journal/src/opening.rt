@@ -4,7 +4,7 @@ ghost use Rattle.desk_ports.specs.Disk.{Known, Adds, Untouched};
 ghost use Rattle.desk_ports.specs.DiskSpent.{Costs};
 ghost use Rattle.desk_ports.specs.Faults.{HasCause};
 ghost use Rattle.report_journal.specs.Image.{header, NoJournalYet, StandsFor, StandsForAny};
-ghost use Rattle.report_journal.specs.Disks.{Holds, Keeps, AtMostRecords};
+ghost use Rattle.report_journal.specs.Disks.{Holds, Keeps, IsLeft, AtMostRecords};
 ghost use Rattle.report_journal.specs.Open.{Refuses};
 ghost use Rattle.report_journal.specs.Steps.{IsNew, IsJudged};
 ghost use Rattle.report_journal.specs.Cause.{HasOpenCause, IsFailed};
@@ -91,6 +91,7 @@ pub fn open<D: Disk>(disk: &mut D, digest: [u8; 32]) -> Result<Journal, OpenErro
     ensures opened { Known (D.reads disk.old) (λ bytes. IfOk result (λ journal. (blocks : List (List ℕ))
         × StandsForAny digest bytes blocks × Keeps D.reads D.image disk.new journal blocks)) }
     ensures key { IfOk result (λ journal. journal.key ≡ digest) }
+    ensures left { IfOk result (IsLeft D.reads D.image disk.new) }
 
     // A refusal comes where the bytes meet it, and then the disk reads as before.
     ensures refused { Known (D.reads disk.old) (λ bytes. IfErr result (λ e. (e ≡ Failed)

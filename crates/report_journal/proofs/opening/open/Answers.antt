@@ -1,5 +1,5 @@
 use Rattle.std.proofs.Common.{◌≡◌, ◌+◌, ◌-◌, [], List, ℕ, min, length, take, get_or, refl, inl, inr, ⊎_elim, subst, sym, ap, ◌∙◌, arith}
-use Rattle.std.specs.Prelude.{Result, Err}
+use Rattle.std.specs.Prelude.{Option, IsTrue, is_some, Result, Err}
 use Rattle.report_journal.specs.Image.{plain_head, header, IsShut, IsLaidOut, StandsFor}
 use Rattle.report_journal.specs.Steps.{IsNew}
 use Rattle.report_journal.specs.Cause.{IsFailed}
@@ -7,7 +7,7 @@ use Rattle.report_journal.specs.declared.opening.OpenError.{OpenError}
 use Rattle.report_journal.specs.declared.opening.OpenError.TheVariants.{Failed}
 use Rattle.report_journal.specs.declared.walk.End.{End}
 use Rattle.report_journal.proofs.Front.{IsFront, begins, is_no_journal, front_take, judged, key_size, stuck}
-use Rattle.report_journal.proofs.Moments.{adds_then}
+use Rattle.report_journal.proofs.Moments.{adds_then, told_now}
 use Rattle.report_journal.proofs.Single.{one_refusal, none_refused}
 use Rattle.report_journal.proofs.Spending.{spends_then, costs_then, call_costs}
 use Rattle.report_journal.proofs.opening.open.Goals as goal
@@ -215,3 +215,9 @@ returns-in-Err-walk-clause-costs g c = λ bytes known most at_most.
     (omega arith) (omega arith) (omega arith) (omega arith) in
     costs_then g.D.Disk.fails g.D.Disk.asked g.D.Disk.most c.args.disk.now c.read_at.new.self 3 0 0 first c.walk.new.disk (most + 1) 0 0 (most + 10) 43 42
     _ _ (c.walk.ensures.costs bytes there most at_most) (λ failed. same_failure c.walk.result c.in-Err-walk.refusal c.in-Err-walk.is (cc (failed))) (omega arith) (omega arith) (omega arith) (omega arith)
+
+pub returns-in-Ok-clause-left : goal.returns-in-Ok-clause-left
+returns-in-Ok-clause-left g c = λ tells.
+    let was = told_now (g.D.Disk.reads c.args.disk.now) (subst (λ (reads : Option (List ℕ)). IsTrue (is_some reads)) (c.walk.ensures.untouched.bytes ∙ c.read_at.ensures.untouched.bytes ∙ c.settle.ensures.bytes) tells) in
+    let opened = returns-in-Ok-clause-opened g c was.0 was.1 in
+    (opened.0, opened.2)

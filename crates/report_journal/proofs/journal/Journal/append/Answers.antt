@@ -1,3 +1,4 @@
+use Rattle.std.specs.Prelude.{IsTrue}
 use Rattle.std.proofs.Common.{◌≡◌, ◌≤◌, ◌<◌, ◌+◌, ◌*◌, ◌++◌, [], ◌∷◌, List, ℕ, length, refl, inl, inr, ⊎_elim, sym, ap, subst, arith, length-append}
 use Rattle.desk_ports.specs.Disk.{Torn, Adds, overwritten}
 use Rattle.report_journal.specs.Image.{plain_head, header, records, IsBlock, StandsFor}
@@ -170,3 +171,8 @@ returns-clause-next g c =
       omega (arith, ap (λ (j : JournalState). j.count) c.self.view_is),
       omega (arith, ap (λ (j : JournalState). j.place) c.self.view_is, long),
     )
+
+pub returns-clause-left : goal.returns-clause-left
+returns-clause-left g c = λ tells.
+    let left = c.requires.left (subst IsTrue c.write_synced.ensures.tells (subst IsTrue c.write_synced-2.ensures.tells tells)) in
+    (_, returns-clause-appended g c left.0 left.1)
