@@ -136,17 +136,16 @@ taken_in_line (suc n) (b ∷ bs) h = go (b == 10) refl (taken_in_line n bs) h
 
 module _ (text : List ℕ) (p : Place) (wide : ℕ) (b : ℕ) (bs : List ℕ) (s : Stands text p wide (b ∷ bs))
     (more : (q : Place) (n inside : ℕ) → Stands text q n bs → inside ≤ length (first bs)
-        → placed_words text (tokens Words q inside bs) ≡ words_left q.line n inside bs) where
-
+    → placed_words text (tokens Words q inside bs) ≡ words_left q.line n inside bs) where
   line_ends : (b == 10) ≡ true → placed_words text (tokens Words p 0 (b ∷ bs)) ≡ words_left p.line wide 0 (b ∷ bs)
   unfolding tokens piece words_piece is_blank before over token placed_words words_left words
   line_ends h =
       let e : b ≡ 10 = grind (arith, h) in
       let q : Place = record { at = p.at + 1; line = next_line p.line; column = 1 } in
       let stands : Stands text q (length (first bs)) bs =
-          record { rest = next_at text p.at b bs s.rest; column = first_column (length (first bs)); short = omega arith } in
+      record { rest = next_at text p.at b bs s.rest; column = first_column (length (first bs)); short = omega arith } in
       let here : placed_words text (tokens Words q 0 bs) ≡ words_of_lines (next_line p.line) (lines bs)
-          = more q (length (first bs)) 0 stands (omega arith) ∙ whole_line (next_line p.line) bs in
+      = more q (length (first bs)) 0 stands (omega arith) ∙ whole_line (next_line p.line) bs in
       rw (ended b bs h, ended_after b bs h, e) here
 
   module _ (k : (b == 10) ≡ false) where
@@ -180,11 +179,11 @@ module _ (text : List ℕ) (p : Place) (wide : ℕ) (b : ℕ) (bs : List ℕ) (s
         let same : until begins_space (first bs) ≡ n = word_in_line bs in
         let rest : placed_words text (tokens Words q n bs) ≡ words_left p.line wide n bs = more q wide n stands (word_short bs) in
         let bytes : take (p.at + (n + 1) - p.at) (drop p.at text) ≡ take (suc n) (b ∷ first bs) =
-            let e : p.at + (n + 1) - p.at ≡ suc n = omega arith in
-            rw (e, s.rest) (ap (λ w. b ∷ w) (sym (taken_in_line n bs (word_short bs)))) in
+        let e : p.at + (n + 1) - p.at ≡ suc n = omega arith in
+        rw (e, s.rest) (ap (λ w. b ∷ w) (sym (taken_in_line n bs (word_short bs)))) in
         let one : n + 1 - 1 ≡ n = omega arith in
         let column : p.column ≡ column_of wide (length (b ∷ first bs))
-            = s.column ∙ ap (λ line. column_of wide (length line)) (goes_on b bs k) in
+        = s.column ∙ ap (λ line. column_of wide (length line)) (goes_on b bs k) in
         rw (h, k, goes_over b p k, goes_on b bs k, goes_on_after b bs k, graphic_no_space b h k, same, one, rest, bytes, column) refl
 
     not_at_end : (inside : ℕ) → inside ≤ length (first (b ∷ bs))
@@ -213,5 +212,5 @@ pub text_words : (text : List ℕ) → WordsAreTokens text
 unfolding tokens_of
 text_words text =
     let stands : Stands text start (length (first text)) text =
-        record { rest = refl; column = first_column (length (first text)); short = omega arith } in
+    record { rest = refl; column = first_column (length (first text)); short = omega arith } in
     sym (all_words text start (length (first text)) 0 text stands (omega arith) ∙ whole_line 1 text)

@@ -139,8 +139,14 @@ waived_lines (Some n) = rw (decimal_line n) refl
 finding_lines : (f : Finding) → AreGraphic (finding_texts f) → list_all is_line (finding_words f) ≡ true
 finding_lines f h =
     let texts = all_parts are_graphic (pin_texts f.pin) (mismatch_texts f.mismatch) h in
-    rw (code_line f.code, pin_line f.pin texts.0, view_line f.view, list_all-append is_line (mismatch_words f.mismatch) (waived_words f.waiver),
-        mismatch_lines f.mismatch texts.1, waived_lines f.waiver) refl
+    rw (
+      code_line f.code,
+      pin_line f.pin texts.0,
+      view_line f.view,
+      list_all-append is_line (mismatch_words f.mismatch) (waived_words f.waiver),
+      mismatch_lines f.mismatch texts.1,
+      waived_lines f.waiver,
+    ) refl
 
 finding_line_of : (f : Finding) → AreGraphic (finding_texts f) → is_line (finding_text f) ≡ true
 finding_line_of f h = joined_line (codes "finding") (spaced (finding_words f)) refl (spaced_line (finding_words f) (finding_lines f h))
