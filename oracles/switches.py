@@ -3,7 +3,7 @@
 The expected lines come from the rules as this script has them ("Transistors" of docs/MEANING.md), walk by walk, and from
 nothing that the program prints. Beside the cases stand values that were found by hand; the script stops where they differ.
 
-    python3 bench/switches.py crates/switch_rows
+    python3 oracles/switches.py crates/switch_rows
 """
 import sys
 from itertools import product

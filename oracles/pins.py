@@ -5,7 +5,7 @@ The expected lines come from the rules as this script has them ("Pin tables and 
 from nothing that the program prints. Beside some cases stand findings that were found by hand; the script stops where they
 differ.
 
-    python3 bench/pins.py crates/pin_rows
+    python3 oracles/pins.py crates/pin_rows
 """
 import sys
 from pathlib import Path

@@ -1,7 +1,7 @@
 #!/usr/bin/env python3
 """Random functions of Liberty cells as `qual compare` and as Yosys read them.
 
-    python3 bench/against_yosys.py PROGRAM [SEED] [CELLS]
+    python3 crosscheck/against_yosys.py PROGRAM [SEED] [CELLS]
 
 Yosys reads the library; the values of what it makes of each function, by Icarus Verilog, become a primitive with a row for
 each vector, which `qual` must find equal to the function. Prints the functions of which it doesn't, and then how many were

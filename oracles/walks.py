@@ -3,7 +3,7 @@
 The expected lines come from the rules as this script has them (Liberty User Guide: operators of functions, "ff Group",
 "latch Group", "statetable Group"), and from nothing that the program prints.
 
-    python3 bench/walks.py crates/meaning_walk
+    python3 oracles/walks.py crates/meaning_walk
 """
 import itertools
 import re

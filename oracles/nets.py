@@ -3,7 +3,7 @@
 The expected lines come from the rules as this script has them (IEEE 1364-2005: 7.2 and 7.3 for gates, clause 8 for
 primitives; docs/MEANING.md for what is this project's own), and from nothing that the program prints.
 
-    python3 bench/nets.py crates/net_rows
+    python3 oracles/nets.py crates/net_rows
 """
 import itertools
 import sys

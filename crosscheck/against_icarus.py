@@ -1,7 +1,7 @@
 #!/usr/bin/env python3
 """Random modules through `qual compare` and through Icarus Verilog.
 
-    python3 bench/against_icarus.py PROGRAM [SEED] [CELLS]
+    python3 crosscheck/against_icarus.py PROGRAM [SEED] [CELLS]
 
 Each module is of gates, primitives, constants, supplies, delays, labels, escaped names and directives. Icarus' answers to
 all vectors become the functions of a Liberty library, which `qual` must find equal; with one value of each cell turned
