@@ -34,3 +34,5 @@ pub use sink::{Sink, SinkFailed};
 
 #[cfg(test)]
 mod tests;
+#[cfg(test)]
+mod disk_tests;

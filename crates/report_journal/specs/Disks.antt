@@ -22,8 +22,8 @@ pub record Keeps {D : Type 0} (reads : D → Option (List ℕ)) (image : D → L
   pub at : IsAt journal blocks bytes
 
 -- where the disk tells what it reads, it is as `open`, `kept` or the last `append` left it
-abbrev pub IsLeft : {D : Type 0} → (D → Option (List ℕ)) → (D → List ℕ → Type 0) → D → JournalState → Type 0
-IsLeft reads image disk journal = IsTrue (is_some (reads disk)) → (blocks : List (List ℕ)) × Keeps reads image disk journal blocks
+pub record IsLeft {D : Type 0} (reads : D → Option (List ℕ)) (image : D → List ℕ → Type 0) (disk : D) (journal : JournalState) : Type 0 where
+  pub keeps : IsTrue (is_some (reads disk)) → (blocks : List (List ℕ)) × Keeps reads image disk journal blocks
 
 -- an image stands for the blocks, or for these and one more
 abbrev pub IsBeforeOrAfter : Key → List (List ℕ) → List ℕ → List ℕ → Type 0

@@ -21,3 +21,6 @@ pub use journal::Journal;
 pub use kept::KeptRefusal;
 pub use opening::{OpenError, open};
 pub use receipt::Receipt;
+
+#[cfg(test)]
+mod tests;

@@ -87,7 +87,7 @@ write_synced-requires-2 g c = λ bytes known.
     let few : v.count < 4096 = omega (arith, c.requires.room, ap (λ (j : JournalState). j.count) is) in
     let framed : IsFrameOf c.deref.result.now c.args.frame = subst (λ (f : List ℕ). IsFrameOf f c.args.frame) (sym c.deref.ensures.value)
     (subst (λ (b : List ℕ). IsFrameOf c.frame.inside.bytes.items b) c.frame.view_is c.frame.invariant) in
-    let left = c.requires.left (tells_before _ _ c.write_synced.ensures.tells bytes known) in
+    let left = c.requires.left.keeps (tells_before _ _ c.write_synced.ensures.tells bytes known) in
     let keeps : Keeps g.D.Disk.reads g.D.Disk.image c.args.disk.now v left.0 = subst (λ (j : JournalState). Keeps g.D.Disk.reads g.D.Disk.image c.args.disk.now j left.0) (sym is) left.1 in
     let r = ready v left.0 keeps.bytes c.args.frame c.deref.result.now keeps.at framed few c.self.invariant in
     let same : bytes ≡ overwritten keeps.bytes (v.place + 1) c.deref.result.now = cc (known, (c.in_ok-write_synced.ensures.durable keeps.bytes keeps.holds.reads_them).reads_them) in
@@ -173,6 +173,7 @@ returns-clause-next g c =
     )
 
 pub returns-clause-left : goal.returns-clause-left
-returns-clause-left g c = λ tells.
-    let left = c.requires.left (subst IsTrue c.write_synced.ensures.tells (subst IsTrue c.write_synced-2.ensures.tells tells)) in
+returns-clause-left g c = record { keeps = λ tells.
+    let left = c.requires.left.keeps (subst IsTrue c.write_synced.ensures.tells (subst IsTrue c.write_synced-2.ensures.tells tells)) in
     (_, returns-clause-appended g c left.0 left.1)
+}
