@@ -10,7 +10,13 @@ fn memory_disk(
     calls: usize,
     fails: &[u64],
 ) -> Result<MemDisk, Fail> {
-    let disk = MemDisk::new(alloc, bytes.to_vec(alloc)?, room, calls, fails.to_vec(alloc)?);
+    let disk = MemDisk::new(
+        alloc,
+        bytes.to_vec(alloc)?,
+        room,
+        calls,
+        fails.to_vec(alloc)?,
+    );
     Ok(disk.ok().ok_or("memory")?)
 }
 

@@ -33,6 +33,6 @@ pub use shelf::{Shelf, ShelfFailed};
 pub use sink::{Sink, SinkFailed};
 
 #[cfg(test)]
-mod tests;
-#[cfg(test)]
 mod disk_tests;
+#[cfg(test)]
+mod tests;

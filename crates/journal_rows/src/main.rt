@@ -83,7 +83,11 @@ fn show_blocks<R: Print + Alloc<A = Global>, D: Disk>(
             Ok(receipt) => {
                 let block = receipt.block();
                 let text = shown(rt.alloc(), block)?;
-                println!(rt; "  block {} of {} bytes {text}", receipt.index(), block.len())?;
+                println!(rt;
+                    "  block {} of {} bytes {text}",
+                    receipt.index(),
+                    block.len()
+                )?;
             }
             Err(_) => bail!("a block that isn't read"),
         }
@@ -95,10 +99,16 @@ fn show_refusal<R: Print + Alloc<A = Global>>(rt: &R, refusal: OpenError) -> Res
     match refusal {
         OpenError::Failed => println!(rt; " failed")?,
         OpenError::OtherInputs { kept } => {
-            println!(rt; " other inputs {}", hex::encode(rt.alloc(), kept.as_slice())?)?;
+            println!(rt;
+                " other inputs {}",
+                hex::encode(rt.alloc(), kept.as_slice())?
+            )?;
         }
         OpenError::NotJournal { first } => {
-            println!(rt; " not a journal {}", hex::encode(rt.alloc(), first.as_slice())?)?;
+            println!(rt;
+                " not a journal {}",
+                hex::encode(rt.alloc(), first.as_slice())?
+            )?;
         }
         OpenError::TooLong { size } => println!(rt; " too long {size}")?,
         OpenError::BrokenRecord { index } => println!(rt; " broken record {index}")?,
@@ -189,11 +199,18 @@ fn show_stop<R: Print + Alloc<A = Global>>(rt: &R, run: Run, disk: &MemDisk) -> 
     let calls = disk.asked().calls;
     let opened = if run.opened { "opened" } else { "not opened" };
     let stopped = if run.stopped { "stopped" } else { "ended" };
-    println!(rt; " {opened}, {} appended, {stopped} after {calls} calls", run.appended)?;
+    println!(rt;
+        " {opened}, {} appended, {stopped} after {calls} calls",
+        run.appended
+    )?;
     show_disk(rt, disk)
 }
 
-fn show_stops<R: Print + Alloc<A = Global>>(rt: &R, bytes: &[u8], blocks: &[Vec<u8>]) -> Result<()> {
+fn show_stops<R: Print + Alloc<A = Global>>(
+    rt: &R,
+    bytes: &[u8],
+    blocks: &[Vec<u8>],
+) -> Result<()> {
     let alloc = rt.alloc();
     for stop in 0..1_000u64 {
         let mut disk = disk_of(alloc, bytes, vec![in alloc; stop]?)?;

@@ -4,8 +4,11 @@ use std::alloc::Global;
 use std::test::Fail;
 
 const DIGEST: [u8; 32] = *b"0123456789abcdef0123456789ABCDEF";
+
 const BLOCK: &[u8] = b"cell S0\ncheck full\nrows 2\ndefined 2\nverdict qualified\n";
-const JOURNAL: &[u8] = b"\x01QUALJRN10123456789abcdef0123456789ABCDEF\x01\0\0\0\x36cell S0\ncheck full\nrows 2\ndefined 2\nverdict qualified\n\0";
+
+const JOURNAL: &[u8] =
+    b"\x01QUALJRN10123456789abcdef0123456789ABCDEF\x01\0\0\0\x36cell S0\ncheck full\nrows 2\ndefined 2\nverdict qualified\n\0";
 
 fn disk_of(alloc: Global, bytes: &[u8]) -> Result<MemDisk, Fail> {
     Ok(MemDisk::new(alloc, bytes.to_vec(alloc)?, 101, 30, Vec::new(alloc))?)

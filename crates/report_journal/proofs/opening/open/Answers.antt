@@ -217,8 +217,9 @@ returns-in-Err-walk-clause-costs g c = λ bytes known most at_most.
     _ _ (c.walk.ensures.costs bytes there most at_most) (λ failed. same_failure c.walk.result c.in-Err-walk.refusal c.in-Err-walk.is (cc (failed))) (omega arith) (omega arith) (omega arith) (omega arith)
 
 pub returns-in-Ok-clause-left : goal.returns-in-Ok-clause-left
-returns-in-Ok-clause-left g c = record { keeps = λ tells.
-    let was = told_now (g.D.Disk.reads c.args.disk.now) (subst (λ (reads : Option (List ℕ)). IsTrue (is_some reads)) (c.walk.ensures.untouched.bytes ∙ c.read_at.ensures.untouched.bytes ∙ c.settle.ensures.bytes) tells) in
-    let opened = returns-in-Ok-clause-opened g c was.0 was.1 in
-    (opened.0, opened.2)
+returns-in-Ok-clause-left g c = record {
+  keeps = λ tells.
+      let was = told_now (g.D.Disk.reads c.args.disk.now) (subst (λ (reads : Option (List ℕ)). IsTrue (is_some reads)) (c.walk.ensures.untouched.bytes ∙ c.read_at.ensures.untouched.bytes ∙ c.settle.ensures.bytes) tells) in
+      let opened = returns-in-Ok-clause-opened g c was.0 was.1 in
+      (opened.0, opened.2);
 }

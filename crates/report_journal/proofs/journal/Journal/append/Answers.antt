@@ -173,7 +173,8 @@ returns-clause-next g c =
     )
 
 pub returns-clause-left : goal.returns-clause-left
-returns-clause-left g c = record { keeps = λ tells.
-    let left = c.requires.left.keeps (subst IsTrue c.write_synced.ensures.tells (subst IsTrue c.write_synced-2.ensures.tells tells)) in
-    (_, returns-clause-appended g c left.0 left.1)
+returns-clause-left g c = record {
+  keeps = λ tells.
+      let left = c.requires.left.keeps (subst IsTrue c.write_synced.ensures.tells (subst IsTrue c.write_synced-2.ensures.tells tells)) in
+      (_, returns-clause-appended g c left.0 left.1);
 }
