@@ -39,8 +39,8 @@ fn append_up_to<D: Disk>(
             return Err(AllocError.into());
         };
         match journal.append(disk, ready) {
-            Ok((next, _)) => journal = next,
-            Err(_) => bail!("the disk failed"),
+            Ok((next, _receipt)) => journal = next,
+            Err(_failed) => bail!("the disk failed"),
         }
     }
     Ok(journal)

@@ -54,8 +54,9 @@ fn shown(alloc: Global, bytes: &[u8]) -> Result<String> {
     if bytes.len() <= 128 {
         return Ok(hex::encode(alloc, bytes)?);
     }
-    let first = hex::encode(alloc, &bytes[..48])?;
-    let last = hex::encode(alloc, &bytes[bytes.len() - 16..])?;
+    let first = bytes.get(..48).unwrap_or(bytes);
+    let last = bytes.get(bytes.len().saturating_sub(16)..).unwrap_or(bytes);
+    let (first, last) = (hex::encode(alloc, first)?, hex::encode(alloc, last)?);
     Ok(format!(in alloc; "{first}..{last}")?)
 }
 
@@ -159,8 +160,8 @@ fn append_all<D: Disk>(
             return Err(AllocError.into());
         };
         match journal.append(disk, ready) {
-            Ok((next, _)) => journal = next,
-            Err(_) => {
+            Ok((next, _receipt)) => journal = next,
+            Err(_failed) => {
                 return Ok(Run {
                     opened: true,
                     appended,
@@ -168,7 +169,7 @@ fn append_all<D: Disk>(
                 });
             }
         }
-        appended += 1;
+        appended = appended.saturating_add(1);
     }
     Ok(Run {
         opened: true,
@@ -177,7 +178,7 @@ fn append_all<D: Disk>(
     })
 }
 
-fn run(alloc: Global, disk: &mut MemDisk, blocks: &[Vec<u8>]) -> Result<Run> {
+fn append_to(alloc: Global, disk: &mut MemDisk, blocks: &[Vec<u8>]) -> Result<Run> {
     match open(disk, DIGEST) {
         Ok(journal) => append_all(alloc, disk, journal, blocks),
         Err(OpenError::Failed) => Ok(Run {
@@ -214,7 +215,7 @@ fn show_stops<R: Print + Alloc<A = Global>>(
     let alloc = rt.alloc();
     for stop in 0..1_000u64 {
         let mut disk = disk_of(alloc, bytes, vec![in alloc; stop]?)?;
-        let run = run(alloc, &mut disk, blocks)?;
+        let run = append_to(alloc, &mut disk, blocks)?;
         show_stop(rt, run, &disk)?;
         let mut again = disk_of(alloc, disk.bytes(), Vec::new(alloc))?;
         show_open(rt, &mut again)?;
