@@ -1,0 +1,5 @@
+pub mod Days
+pub mod Fields
+pub mod File
+pub mod Row
+pub mod Cover
