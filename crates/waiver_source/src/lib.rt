@@ -2,6 +2,9 @@
 //! what a check's findings are held against.
 #![tactic(auto)]
 
+mod entry;
+mod finding;
+mod indexing;
 mod waiver;
 mod waivers;
 

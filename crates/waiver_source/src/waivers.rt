@@ -1,6 +1,9 @@
 ghost use Rattle.std.specs.Prelude.{◌≡◌, [], IfOk, length};
 ghost use Rattle.waiver_source.specs.Places as spec;
 
+use crate::entry::Entry;
+use crate::finding::first_in;
+use crate::indexing::entries_of;
 use crate::waiver::Waiver;
 use std::alloc::Global;
 use std::marker::Model;
@@ -8,18 +11,24 @@ use text_scan::{Items, NoMemory};
 use verdict_text::Code;
 
 /// Waivers in the order of their file, found by their words for cells and pins and by their codes.
+///
+/// An index takes the words of each waiver once more.
 #[derive(Drop)]
 pub struct Waivers {
     rows: Items<Waiver>,
+    index: Vec<Entry>,
 }
 
 impl Model for Waivers {
     ghost use Rattle.std.specs.Prelude.{List};
     ghost use Rattle.waiver_source.specs.declared.waiver.Waiver.{Waiver as WaiverData};
+    ghost use Rattle.waiver_source.specs.Index.{IsIndexOf};
 
     ghost Value = { List WaiverData };
 
     ghost view = { λ w. w.rows };
+
+    ghost invariant = { λ w. IsIndexOf w.rows w.index.items };
 }
 
 impl Waivers {
@@ -29,15 +38,16 @@ impl Waivers {
     {
         Waivers {
             rows: Items::new(alloc),
+            index: Vec::new(alloc),
         }
     }
 
-    /// These waivers.
+    /// These waivers, in time n log n of their number.
     pub fn of(alloc: Global, rows: Items<Waiver>) -> Result<Waivers, NoMemory>
         ensures { IfOk result (λ waivers. waivers ≡ rows) }
     {
-        let _ = alloc;
-        Ok(Waivers { rows })
+        let index = entries_of(alloc, rows.as_slice())?;
+        Ok(Waivers { rows, index })
     }
 
     /// The waivers in order.
@@ -55,22 +65,10 @@ impl Waivers {
     }
 
     /// The place, from 0, of the first waiver with this word for cells, this code and this word for pins whose last day
-    /// isn't before the day.
+    /// isn't before the day, found in logarithmic time.
     pub fn first_place(&self, cell: &[u8], code: Code, pin: &[u8], day: i32) -> Option<usize>
         ensures { result ≡ spec.first_place self.now cell.now code pin.now day }
     {
-        self.rows
-            .as_slice()
-            .iter()
-            .position(|waiver| is_of(waiver, cell, code, pin, day))
+        first_in(self.index.as_slice(), cell, code, pin, day)
     }
-}
-
-fn is_of(waiver: &Waiver, cell: &[u8], code: Code, pin: &[u8], day: i32) -> bool
-    ensures { result ≡ spec.is_of cell.now code pin.now day waiver.now }
-{
-    waiver.cell.as_bytes() == cell
-        && waiver.code.word().as_bytes() == code.word().as_bytes()
-        && waiver.pin.as_bytes() == pin
-        && day <= waiver.last
 }

@@ -13,3 +13,6 @@ pub use applied::apply;
 pub use cover::covered;
 pub use day::read_day;
 pub use file::read_waivers;
+
+#[cfg(test)]
+mod tests;

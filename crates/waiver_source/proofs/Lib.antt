@@ -1,0 +1,6 @@
+mod Orders
+mod Listed
+mod Raising
+mod Firsts
+mod Found
+mod Raised
