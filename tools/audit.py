@@ -3,8 +3,8 @@ sentences.
 
     python3 tools/audit.py [CRATE FILE FUNCTION]
 
-Without words: the clauses of `qual`. A definition's sentence is the comment above it, else the words beside its name in the
-tables of `docs/`. The types of the code and the words of the standard library are not followed."""
+Without words: the clauses of `qual`. A definition's sentence is the comment above it, else the words beside its name in a
+table of `docs/` that tells of its crate. The types of the code and the words of the standard library are not followed."""
 import re
 import sys
 from collections import deque
@@ -60,16 +60,38 @@ def definitions_of(path):
         comment = []
 
 
-def words_of_docs():
-    """The sentences of the tables of `docs/` by the names beside them."""
-    told = {}
-    for path in sorted((TOP / "docs").glob("*.md")):
-        for line in path.read_text().splitlines():
+class Sentences:
+    """The sentences of the tables of `docs/`, by crate and name. A table tells of the crates that the headings above it name, or
+    else of those that the page names before its first heading of the second rank; where none is named, of all."""
+
+    def __init__(self, crates):
+        self.told, self.crates = {}, crates
+        for path in sorted((TOP / "docs").glob("*.md")):
+            if path.name != "AUDIT.md":
+                self.read(path.read_text().splitlines())
+
+    def read(self, lines):
+        page, headings = [], {}
+        for line in lines:
+            rank = len(line) - len(line.lstrip("#"))
+            if rank:
+                headings = {above: crates for above, crates in headings.items() if above < rank}
+                headings[rank] = self.crates_in(line)
+            elif max(headings, default=1) < 2:
+                page += self.crates_in(line)
             cells = [cell.strip() for cell in line.strip("|").split(" | ")]
             if line.startswith("| `") and len(cells) > 1:
+                above = [crate for crates in headings.values() for crate in crates]
                 for name in re.findall(r"`([^`\s]+)[^`]*`", cells[0]):
-                    told.setdefault(name, " | ".join(cells[1:]))
-    return told
+                    for crate in above or page or [None]:
+                        self.told.setdefault((crate, name), " | ".join(cells[1:]))
+
+    def crates_in(self, line):
+        return [word for word in re.findall(r"`(\w+)`", line) if word in self.crates]
+
+    def of(self, definition):
+        crate = definition.module.partition(".")[0]
+        return definition.sentence or self.told.get((crate, definition.name)) or self.told.get((None, definition.name), "")
 
 
 class Specs:
@@ -102,7 +124,8 @@ def clauses_of(path, function):
 
 
 def main(crate="qual_core", file="top", function="qual"):
-    specs, told = Specs(), words_of_docs()
+    specs = Specs()
+    sentences = Sentences({path.name for path in (TOP / "crates").iterdir()})
     clauses, imports = clauses_of(TOP / "crates" / crate / "src" / f"{file}.rt", function)
     reached = dict.fromkeys(specs.cited(clauses, f"{crate}.specs", imports))
     waiting = deque(reached)
@@ -122,7 +145,7 @@ def main(crate="qual_core", file="top", function="qual"):
     for path, definitions in by_file.items():
         print(f"\n## `{path}`\n")
         for definition in sorted(definitions, key=lambda one: one.line):
-            sentence = definition.sentence or told.get(definition.name, "")
+            sentence = sentences.of(definition)
             print(f"- `{definition.name}`{': ' if sentence else ''}{sentence}")
 
 
